@@ -22,32 +22,32 @@ cannot_open_text command name =
     codes "bedtools " ++ command ++ codes ": " ++ name ++ codes ": cannot be opened\n"
 
 -- the line, with its line feed
-abbrev pub line_of : Obstacle → List ℕ
-line_of NotUnicode = codes "bedtools: argument is not UTF-8\n"
-line_of (Usage words usage) = usage_text (words_seen words.now) usage
-line_of ClosedStream = codes "bedtools: standard stream is closed\n"
-line_of (CannotOpen command name) = cannot_open_text command.now name.now
+abbrev pub obstacle_line : Obstacle → List ℕ
+obstacle_line NotUnicode = codes "bedtools: argument is not UTF-8\n"
+obstacle_line (Usage words usage) = usage_text (words_seen words.now) usage
+obstacle_line ClosedStream = codes "bedtools: standard stream is closed\n"
+obstacle_line (CannotOpen command name) = cannot_open_text command.now name.now
 
 -- the exit status
-abbrev pub status_of : Obstacle → ℕ
-status_of NotUnicode = 2
-status_of (Usage words usage) = 2
-status_of ClosedStream = 1
-status_of (CannotOpen command name) = 1
+abbrev pub obstacle_status : Obstacle → ℕ
+obstacle_status NotUnicode = 2
+obstacle_status (Usage words usage) = 2
+obstacle_status ClosedStream = 1
+obstacle_status (CannotOpen command name) = 1
 
 -- what standard error gets
-abbrev pub line_seen : MessageLine → List ℕ
-line_seen Nothing = []
-line_seen (Text line) = line.items
-line_seen NoMemory = codes "bedtools: no memory\n"
+abbrev pub message_seen : MessageLine → List ℕ
+message_seen Nothing = []
+message_seen (Text line) = line.items
+message_seen NoMemory = codes "bedtools: no memory\n"
 
 -- a message says that there was no memory
 abbrev pub SaysNoMemory : Message → Type 0
 SaysNoMemory message =
-    line_seen message.line ≡ codes "bedtools: no memory\n" × message.status ≡ 1
+    message_seen message.line ≡ codes "bedtools: no memory\n" × message.status ≡ 1
 
 -- a message says this line with this exit status; or there was no memory for the line,
 -- which has status 1
 abbrev pub Says : List ℕ → ℕ → Message → Type 0
 Says line status message =
-    (line_seen message.line ≡ line × message.status ≡ status) ⊎ SaysNoMemory message
+    (message_seen message.line ≡ line × message.status ≡ status) ⊎ SaysNoMemory message

@@ -35,7 +35,7 @@ opened_is_standard (File source) = false
 opened_is_standard (Standard source) = true
 
 -- an input of which nothing was read: standard input, or a file, as its name says
-pub record IsFresh (name : List ℕ) (input : Opened) : Type 0 where
+pub record IsUnused (name : List ℕ) (input : Opened) : Type 0 where
   pub served : opened_has_failed input ≡ false
   pub going : opened_end_told input ≡ false
   pub standard : opened_is_standard input ≡ is_standard_input name

@@ -32,7 +32,7 @@ ghost use Rattle.bt_tool.specs.declared.options.usage.Usage.{Usage};
 ghost use Rattle.bedtools.specs.Ending.{CannotBegin, Ends, OpensIf, ReportsRun, ReportsUnopened};
 ghost use Rattle.bt_lines.specs.calls.Faults.{write_failed};
 ghost use Rattle.bt_tool.specs.calls.Run.{Runs};
-ghost use Rattle.bedtools.specs.Message.{Says, SaysNoMemory, cannot_open_text, line_seen};
+ghost use Rattle.bedtools.specs.Message.{Says, SaysNoMemory, cannot_open_text, message_seen};
 
 mod files;
 mod identity;
@@ -222,7 +222,7 @@ fn cannot_open(alloc: Global, plan: &Plan, name: &str) -> Message
 // How a run ended: its fault, if there is one, is reported.
 fn end_of(alloc: Global, plan: &Plan, outcome: &Outcome) -> Message
     ensures fault { ReportsRun (plan_seen plan.now) (option_map fault_value outcome.now.fault) result }
-    ensures none { outcome.now.fault ≡ None → line_seen result.line ≡ [] × result.status ≡ 0 }
+    ensures none { outcome.now.fault ≡ None → message_seen result.line ≡ [] × result.status ≡ 0 }
 {
     let line = match outcome.fault_line(alloc, plan) {
         Ok(Some(line)) => MessageLine::Text(line),

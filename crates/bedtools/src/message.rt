@@ -1,7 +1,7 @@
 //! What the program itself reports: the lines that come of no run.
 
 ghost use Rattle.std.specs.Prelude.{◌≡◌, ◌++◌, codes, IfOk};
-ghost use Rattle.bedtools.specs.Message.{CanBeReported, Says, line_of, line_seen, status_of};
+ghost use Rattle.bedtools.specs.Message.{CanBeReported, Says, obstacle_line, message_seen, obstacle_status};
 
 use bt_tool::{Usage, usage_line};
 use std::alloc::{AllocError, Global};
@@ -42,7 +42,7 @@ impl Message {
     /// else 1. If there is no memory for the line, that is reported, with status 1.
     pub fn of(alloc: Global, obstacle: &Obstacle<'_>) -> Message
         requires { CanBeReported obstacle.now }
-        ensures { Says (line_of obstacle.now) (status_of obstacle.now) result }
+        ensures { Says (obstacle_line obstacle.now) (obstacle_status obstacle.now) result }
     {
         match line_of(alloc, obstacle) {
             Ok(line) => Message {
@@ -55,7 +55,7 @@ impl Message {
 
     /// Says that there was no memory.
     pub fn no_memory() -> Message
-        ensures line { line_seen result.line ≡ codes "bedtools: no memory\n" }
+        ensures line { message_seen result.line ≡ codes "bedtools: no memory\n" }
         ensures status { result.status ≡ 1 }
     {
         Message {
@@ -73,7 +73,7 @@ impl Message {
 impl MessageLine {
     /// The bytes to print.
     pub fn as_bytes(&self) -> &[u8]
-        ensures { result.now ≡ line_seen self.now }
+        ensures { result.now ≡ message_seen self.now }
     {
         match self {
             MessageLine::Nothing => b"",
@@ -86,7 +86,7 @@ impl MessageLine {
 // The line of what kept a run from beginning.
 fn line_of(alloc: Global, obstacle: &Obstacle<'_>) -> Result<Vec<u8>, AllocError>
     requires { CanBeReported obstacle.now }
-    ensures { IfOk result (λ line. line.items ≡ line_of obstacle.now) }
+    ensures { IfOk result (λ line. line.items ≡ obstacle_line obstacle.now) }
 {
     match obstacle {
         Obstacle::NotUnicode => Vec::from_slice(alloc, b"bedtools: argument is not UTF-8\n"),
@@ -100,7 +100,7 @@ fn line_of(alloc: Global, obstacle: &Obstacle<'_>) -> Result<Vec<u8>, AllocError
 
 // The exit status that goes with it.
 fn status_of(obstacle: &Obstacle<'_>) -> u8
-    ensures { result ≡ status_of obstacle.now }
+    ensures { result ≡ obstacle_status obstacle.now }
 {
     match obstacle {
         Obstacle::NotUnicode | Obstacle::Usage(_, _) => 2,

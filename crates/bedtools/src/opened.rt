@@ -2,7 +2,7 @@
 
 ghost use Rattle.std.specs.Prelude.{◌≡◌, None, IfOk};
 ghost use Rattle.bt_lines.specs.calls.Device.{TellsFailure};
-ghost use Rattle.bedtools.specs.Opened.{input_meant, file_named, opened_has_failed, opened_end_told, IsFresh};
+ghost use Rattle.bedtools.specs.Opened.{input_meant, file_named, opened_has_failed, opened_end_told, IsUnused};
 
 use bt_lines::{DeviceFailed, FromRead, Source};
 use bt_tool::is_standard_input;
@@ -20,7 +20,7 @@ pub enum Opened {
 impl Opened {
     /// Opens the input of this name. `Err` if it can't be opened, or memory runs out.
     pub fn open(rt: &HostRuntime, name: &str) -> io::Result<Opened>
-        ensures { IfOk result (IsFresh name.now) }
+        ensures { IfOk result (IsUnused name.now) }
     {
         match input_named(name) {
             Input::Standard => Ok(Opened::Standard(FromRead::new(rt.stdin()))),

@@ -1,7 +1,7 @@
 //! The files that the system has.
 
 ghost use Rattle.std.specs.Prelude.{◌≡◌, ⊤, is_some};
-ghost use Rattle.bedtools.specs.Opened.{IsFresh, output_is_file};
+ghost use Rattle.bedtools.specs.Opened.{IsUnused, output_is_file};
 
 use crate::files::{Files, Unopened};
 use crate::identity::is_input;
@@ -21,7 +21,7 @@ impl Files for SystemFiles<'_> {
 
     type Output = Output;
 
-    ghost opens = { λ files name input. IsFresh name input };
+    ghost opens = { λ files name input. IsUnused name input };
 
     ghost creates = { λ files name output. output_is_file output ≡ is_some name };
 

@@ -7,7 +7,7 @@ use Rattle.bt_bed.specs.model.Genome.{Entry}
 use Rattle.bt_bed.specs.declared.record.strand.Strand.{Strand}
 use Rattle.bt_runs.specs.model.Depth.{DepthInterval, coverage, depth_lines, is_counted_by}
 use Rattle.bt_runs.specs.calls.Complementing.{length_in}
-use Rattle.bt_tool.specs.model.Report.{Inputs, or_empty, order_of, report_of}
+use Rattle.bt_tool.specs.model.Report.{Inputs, or_empty, order_in_use, report_of}
 use Rattle.bt_tool.specs.declared.planning.plan_type.Command.TheVariants.{Coverage, Intersect, Subtract}
 use Rattle.bt_laws.specs.WholeRuns.{RunWrites, RunsWithoutFault, first_records, second_records}
 use Rattle.bt_sweep.specs.model.Hits.{hits_among}
@@ -108,6 +108,6 @@ intersect_and_subtract_part =
     let cuts = records_written Cut any_overlap first (second_records chromosomes inputs) in
     let left = records_written Pieces any_overlap first (second_records chromosomes inputs) in
     ((report_of (Subtract false any_overlap held) inputs).fault ≡ None)
-    × IsInput (order_of chromosomes) (report_of (Intersect Cut any_overlap held) inputs).output cuts
-    × IsInput (order_of chromosomes) (report_of (Subtract false any_overlap held) inputs).output left
+    × IsInput (order_in_use chromosomes) (report_of (Intersect Cut any_overlap held) inputs).output cuts
+    × IsInput (order_in_use chromosomes) (report_of (Subtract false any_overlap held) inputs).output left
     × PartBases (intervals_of first) (intervals_of cuts) (intervals_of left)

@@ -4,7 +4,7 @@ use Rattle.bt_bed.specs.model.Feature.{Feature, is_strand, interval_of, interval
 use Rattle.bt_bed.specs.calls.Orders.{AreNonEmpty, ArePlaced, IsTotal}
 use Rattle.bt_bed.specs.declared.record.strand.Strand.{Strand}
 use Rattle.bt_runs.specs.model.Merged.{merged_runs, runs_of_strand, settled_strand_runs, strand_runs, StrandRun, is_in, places_of}
-use Rattle.bt_runs.specs.calls.MergedRuns.{AreTaken, kept_runs, settled_runs, kept_strand_runs}
+use Rattle.bt_runs.specs.calls.MergedRuns.{AreMergeable, kept_runs, settled_runs, kept_strand_runs}
 use Rattle.bt_runs.specs.declared.merge.merge_strand.MergeStrand.{MergeStrand}
 use Rattle.std.specs.List.{find, position_or_len}
 use Rattle.std.specs.List.Sorted.{IsStrictlyIncreasing}
@@ -16,14 +16,14 @@ use Rattle.bt_bed.specs.model.Order.{Order}
 -- the settled runs and the kept ones are all, and one run at most is kept
 abbrev pub one_run_is_kept : Type 0
 one_run_is_kept =
-    (gap : ℕ) (strand : MergeStrand) (past : List Feature) → AreTaken past
+    (gap : ℕ) (strand : MergeStrand) (past : List Feature) → AreMergeable past
     → (merged_runs gap strand past ≡ settled_runs gap strand past ++ kept_runs gap strand past)
     × (length (kept_runs gap strand past) ≤ 1)
 
 -- the runs of one strand come in their order, each of them once
 abbrev pub strands_stay_in_order : Type 0
 strands_stay_in_order =
-    (gap : ℕ) (records : List Feature) (strand : Strand) → AreTaken records
+    (gap : ℕ) (records : List Feature) (strand : Strand) → AreMergeable records
     → filter (λ item. is_strand item.strand strand) (strand_runs gap records)
     ≡ runs_of_strand gap records strand
 
@@ -48,13 +48,13 @@ first_start records item =
 -- the runs come in the order of their first records in the file
 abbrev pub strand_runs_come_in_turn : Type 0
 strand_runs_come_in_turn =
-    (gap : ℕ) (records : List Feature) → AreTaken records
+    (gap : ℕ) (records : List Feature) → AreMergeable records
     → IsStrictlyIncreasing (map (first_place records) (strand_runs gap records))
 
 -- each run has a first record, and starts where it does
 abbrev pub strand_runs_start_with_records : Type 0
 strand_runs_start_with_records =
-    (gap : ℕ) (records : List Feature) → AreTaken records
+    (gap : ℕ) (records : List Feature) → AreMergeable records
     → map (first_start records) (strand_runs gap records)
     ≡ map (λ item. Some (locus_of item.run)) (strand_runs gap records)
 

@@ -13,12 +13,12 @@ use Rattle.bt_bed.specs.model.Genome.{Entry, genome_names}
 use Rattle.bt_runs.specs.declared.merge.merge_strand.MergeStrand.{MergeStrand}
 use Rattle.bt_sweep.specs.declared.hits.hit_rule.HitRule.{HitRule}
 use Rattle.bt_sweep.specs.declared.output.shape.Shape.{Shape}
-use Rattle.bt_tool.specs.model.Report.{order_of, chromosomes_of, report_of}
+use Rattle.bt_tool.specs.model.Report.{order_in_use, chromosomes_of, report_of}
 use Rattle.bt_tool.specs.declared.planning.plan_type.Command.{Command}
 use Rattle.bt_tool.specs.declared.planning.plan_type.Command.TheVariants.{BamToBed, Intersect, Merge, Subtract, Complement, Coverage, MaskFasta}
 use Rattle.bt_bed.specs.declared.record.strand.Strand.{Strand}
 use Rattle.bt_lines.specs.declared.fault.Kind.TheVariants.{NoSequence}
-use Rattle.bt_seq.specs.model.Masked.{is_header, name_in}
+use Rattle.bt_seq.specs.model.Masked.{is_sequence_header, name_in}
 use Rattle.bt_seq.specs.calls.MaskState.{left_after}
 use Rattle.bt_seq.specs.declared.mask.mask_how.MaskHow.{MaskHow}
 
@@ -127,7 +127,7 @@ merge_divides =
     (d : ℕ) (strand : MergeStrand) (genome : Option Handed) (chromosomes : Option (List Entry))
     (texts : List (List ℕ))
     → chromosomes_of genome ≡ Ok chromosomes → AreOfLines texts
-    → TextsAscend (order_of chromosomes) texts → TextsAddUp (Merge d strand) genome texts
+    → TextsAscend (order_in_use chromosomes) texts → TextsAddUp (Merge d strand) genome texts
 
 -- the texts of two inputs
 pub record Texts : Type 0 where
@@ -175,7 +175,7 @@ intersect_divides =
     (shape : Shape) (rule : HitRule) (genome : Option Handed) (chromosomes : Option (List Entry))
     (parts : List Texts)
     → chromosomes_of genome ≡ Ok chromosomes → ArePairs parts
-    → PairsAscend (order_of chromosomes) parts → PairsAddUp (Intersect shape rule None) genome parts
+    → PairsAscend (order_in_use chromosomes) parts → PairsAddUp (Intersect shape rule None) genome parts
 
 -- subtract: both inputs divided as those of intersect
 abbrev pub subtract_divides : Type 0
@@ -183,7 +183,7 @@ subtract_divides =
     (whole : Bool) (rule : HitRule) (genome : Option Handed) (chromosomes : Option (List Entry))
     (parts : List Texts)
     → chromosomes_of genome ≡ Ok chromosomes → ArePairs parts
-    → PairsAscend (order_of chromosomes) parts → PairsAddUp (Subtract whole rule None) genome parts
+    → PairsAscend (order_in_use chromosomes) parts → PairsAddUp (Subtract whole rule None) genome parts
 
 -- When the outputs of parts, each with its own part of the genome file, are the output of the whole.
 
@@ -323,7 +323,7 @@ subtract_shards_suffice = (whole : Bool) (rule : HitRule) → PairShardsSuffice 
 
 -- the name that a line gives, if it is a header
 abbrev pub name_on : Bool → List ℕ → List (List ℕ)
-name_on full text = if is_header text then name_in full text ∷ [] else []
+name_on full text = if is_sequence_header text then name_in full text ∷ [] else []
 
 -- the names of the sequences of a FASTA text
 abbrev pub sequence_names : Bool → List ℕ → List (List ℕ)

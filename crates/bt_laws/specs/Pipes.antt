@@ -25,7 +25,7 @@ use Rattle.bt_runs.specs.model.Gaps.{complement}
 use Rattle.bt_runs.specs.model.Merged.{ordered_runs, places_of, strand_runs}
 use Rattle.bt_runs.specs.declared.merge.merge_strand.MergeStrand.{MergeStrand}
 use Rattle.bt_runs.specs.declared.merge.merge_strand.MergeStrand.TheVariants.{Each}
-use Rattle.bt_tool.specs.model.Report.{entries_in, order_of, Inputs, report_of}
+use Rattle.bt_tool.specs.model.Report.{entries_in, order_in_use, Inputs, report_of}
 use Rattle.bt_tool.specs.declared.planning.plan_type.Command.TheVariants.{Merge, Complement, Coverage, Intersect, Subtract, BamToBed}
 use Rattle.bt_laws.specs.WholeRuns.{RunsWithoutFault, first_records, second_records, piped, two_texts}
 use Rattle.bt_tool.specs.declared.planning.plan_type.Command.{Command}
@@ -172,9 +172,9 @@ abbrev pub merge_is_input : Type 0
 merge_is_input =
     (d : ℕ) (strand : MergeStrand) (inputs : Inputs) (chromosomes : Option (List Entry))
     → RunsWithoutFault (Merge d strand) inputs chromosomes
-    → let runs = runs_by (order_of chromosomes) d strand (first_records chromosomes inputs) in
+    → let runs = runs_by (order_in_use chromosomes) d strand (first_records chromosomes inputs) in
     ((report_of (Merge d strand) inputs).output ≡ interval_lines runs)
-    × IsInput (order_of chromosomes) (report_of (Merge d strand) inputs).output
+    × IsInput (order_in_use chromosomes) (report_of (Merge d strand) inputs).output
     (map three_columns runs)
     × (strand ≢ Each → AllPairs AreSeparate runs)
 
@@ -186,7 +186,7 @@ complement_is_input =
     → RunsWithoutFault (Complement limit) inputs chromosomes
     → let gaps = complement limit (entries_in chromosomes) (first_records chromosomes inputs) in
     ((report_of (Complement limit) inputs).output ≡ interval_lines gaps)
-    × IsInput (order_of chromosomes) (report_of (Complement limit) inputs).output
+    × IsInput (order_in_use chromosomes) (report_of (Complement limit) inputs).output
     (filter is_no_header (map three_columns gaps))
     × AllPairs AreSeparate gaps
 
@@ -197,7 +197,7 @@ genomecov_is_input =
     → RunsWithoutFault (Coverage zeros strand) inputs chromosomes
     → let depths = coverage zeros strand (entries_in chromosomes) (first_records chromosomes inputs) in
     ((report_of (Coverage zeros strand) inputs).output ≡ depth_lines depths)
-    × IsInput (order_of chromosomes) (report_of (Coverage zeros strand) inputs).output
+    × IsInput (order_in_use chromosomes) (report_of (Coverage zeros strand) inputs).output
     (filter is_no_header (map four_columns depths))
     × AllPairs AreDisjoint (map interval_at depths)
 
@@ -208,7 +208,7 @@ intersect_is_input =
     (shape : Shape) (rule : HitRule) (held : Option ℕ) (inputs : Inputs)
     (chromosomes : Option (List Entry))
     → begins_with_a shape ≡ true → RunsWithoutFault (Intersect shape rule held) inputs chromosomes
-    → IsInput (order_of chromosomes) (report_of (Intersect shape rule held) inputs).output
+    → IsInput (order_in_use chromosomes) (report_of (Intersect shape rule held) inputs).output
     (records_written shape rule (first_records chromosomes inputs)
     (second_records chromosomes inputs))
 
@@ -217,7 +217,7 @@ abbrev pub whole_subtract_is_input : Type 0
 whole_subtract_is_input =
     (rule : HitRule) (held : Option ℕ) (inputs : Inputs) (chromosomes : Option (List Entry))
     → RunsWithoutFault (Subtract true rule held) inputs chromosomes
-    → IsInput (order_of chromosomes) (report_of (Subtract true rule held) inputs).output
+    → IsInput (order_in_use chromosomes) (report_of (Subtract true rule held) inputs).output
     (records_written Whole rule (first_records chromosomes inputs)
     (second_records chromosomes inputs))
 
@@ -274,7 +274,7 @@ cut_intersect_is_input =
     (chromosomes : Option (List Entry))
     → begins_with_a shape ≡ false → RunsWithoutFault (Intersect shape rule held) inputs chromosomes
     → AllPairs AreDisjoint (intervals_of (first_records chromosomes inputs))
-    → IsInput (order_of chromosomes) (report_of (Intersect shape rule held) inputs).output
+    → IsInput (order_in_use chromosomes) (report_of (Intersect shape rule held) inputs).output
     (records_written shape rule (first_records chromosomes inputs)
     (second_records chromosomes inputs))
 
@@ -286,7 +286,7 @@ subtract_is_input =
     → AllPairs AreDisjoint (intervals_of (first_records chromosomes inputs))
     → let left = records_written Pieces rule (first_records chromosomes inputs)
     (second_records chromosomes inputs) in
-    IsInput (order_of chromosomes) (report_of (Subtract false rule held) inputs).output left
+    IsInput (order_in_use chromosomes) (report_of (Subtract false rule held) inputs).output left
     × AllPairs AreDisjoint (intervals_of left)
 
 -- Outputs that go on where no two records may overlap.

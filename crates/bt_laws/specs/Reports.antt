@@ -1,7 +1,7 @@
 -- What holds of every command line.
 use Rattle.std.specs.Prelude.{◌≡◌, ◌≢◌, ◌↔◌, List, ◌∷◌, ◌++◌, ℕ, None, Some, Err, Result, All, length}
 use Rattle.bt_tool.specs.declared.options.usage.Usage.{Usage}
-use Rattle.bt_tool.specs.model.Usage.{Item, items_of, spelled}
+use Rattle.bt_tool.specs.model.Usage.{Item, items_of, words_spelled}
 use Rattle.bt_tool.specs.calls.CommandLine.{IsLongestDivision, IsTellable, AnswersAll}
 use Rattle.bt_tool.specs.model.Options.{PlanSeen, last_item, options, word_fault}
 use Rattle.bt_tool.specs.model.Table.{Word, Table}
@@ -19,7 +19,7 @@ AnswerIsUnique = (words : List Word) (answer : Result PlanSeen Usage)
 -- no word is at fault exactly if all words divide into items
 abbrev pub FaultIsOfWhatIsLeft : Type 0
 FaultIsOfWhatIsLeft = (table : Table) (at : ℕ) (words : List Word)
-    → (word_fault table at words ≡ None) ↔ (spelled (items_of table words) ≡ words)
+    → (word_fault table at words ≡ None) ↔ (words_spelled (items_of table words) ≡ words)
 
 -- an item that no later item of its option follows is the option's last
 abbrev pub LastItemCounts : Type 0

@@ -7,8 +7,8 @@ use Rattle.bt_bed.specs.calls.LevelScan.{scanned}
 use Rattle.bt_runs.specs.model.Depth.{levels_of, DepthInterval, coverage, depth_at, settled_depths}
 use Rattle.bt_bed.specs.model.Genome.{Entry}
 use Rattle.bt_runs.specs.model.Gaps.{complement, gaps_of, settled_gaps}
-use Rattle.bt_runs.specs.calls.Complementing.{AreTaken, kept_place}
-use Rattle.bt_runs.specs.model.Merged.{end_of, is_bridged, is_covered, runs_of, counted, chromosomes, merged, in_order, ordered_runs}
+use Rattle.bt_runs.specs.calls.Complementing.{AreInGenomeOrder, kept_place}
+use Rattle.bt_runs.specs.model.Merged.{end_of, is_bridged, is_covered, runs_of, counted, chromosomes, merged, ordered_names, ordered_runs}
 use Rattle.bt_bed.specs.declared.record.strand.Strand.{Strand}
 use Rattle.std.specs.List.{AllByRecursion}
 use Rattle.std.specs.declared.cmp.Ordering.TheVariants.{Less}
@@ -97,7 +97,7 @@ gaps_have_depth_0 =
 abbrev pub settled_depths_stay : Type 0
 settled_depths_stay =
     (zeros : Bool) (strand : Option Strand) (entries : List Entry) (past more : List Feature)
-    → AreTaken entries (past ++ more)
+    → AreInGenomeOrder entries (past ++ more)
     → (rest : List DepthInterval)
     × (settled_depths zeros strand entries (past ++ more)
     ≡ settled_depths zeros strand entries past ++ rest)
@@ -106,7 +106,7 @@ settled_depths_stay =
 abbrev pub settled_depths_begin : Type 0
 settled_depths_begin =
     (zeros : Bool) (strand : Option Strand) (entries : List Entry) (past more : List Feature)
-    → AreTaken entries (past ++ more)
+    → AreInGenomeOrder entries (past ++ more)
     → (rest : List DepthInterval)
     × (coverage zeros strand entries (past ++ more)
     ≡ settled_depths zeros strand entries past ++ rest)
@@ -115,7 +115,7 @@ settled_depths_begin =
 abbrev pub settled_gaps_stay : Type 0
 settled_gaps_stay =
     (limit : Bool) (entries : List Entry) (past more : List Feature)
-    → AreTaken entries (past ++ more)
+    → AreInGenomeOrder entries (past ++ more)
     → (rest : List Interval) × (settled_gaps limit entries (past ++ more)
     ≡ settled_gaps limit entries past ++ rest)
 
@@ -123,7 +123,7 @@ settled_gaps_stay =
 abbrev pub settled_gaps_begin : Type 0
 settled_gaps_begin =
     (limit : Bool) (entries : List Entry) (past more : List Feature)
-    → AreTaken entries (past ++ more)
+    → AreInGenomeOrder entries (past ++ more)
     → (rest : List Interval) × (complement limit entries (past ++ more)
     ≡ settled_gaps limit entries past ++ rest)
 
@@ -144,17 +144,17 @@ ComesBefore order name [] = ⊤
 ComesBefore order name (n ∷ ns) = order.compare name n ≡ Less
 
 -- each name comes before the next
-abbrev pub AreAscending : Order → List (List ℕ) → Type 0
-AreAscending order [] = ⊤
-AreAscending order (n ∷ ns) = ComesBefore order n ns × AreAscending order ns
+abbrev pub AreSortedNames : Order → List (List ℕ) → Type 0
+AreSortedNames order [] = ⊤
+AreSortedNames order (n ∷ ns) = ComesBefore order n ns × AreSortedNames order ns
 
 -- in a total order different names that are known come one before the other, and no others do
 abbrev pub names_come_in_order : Type 0
 names_come_in_order =
     (order : Order) (names : List (List ℕ)) → IsTotal order → AreKnown order names
     → AreDistinct names
-    → AreAscending order (in_order order names)
-    × ((name : List ℕ) → is_among (in_order order names) name ≡ is_among names name)
+    → AreSortedNames order (ordered_names order names)
+    × ((name : List ℕ) → is_among (ordered_names order names) name ≡ is_among names name)
 
 -- each chromosome that has records is named once
 abbrev pub chromosomes_are_named_once : Type 0

@@ -7,12 +7,12 @@ use Rattle.bt_bed.specs.declared.record.strand.Strand.{Strand}
 use Rattle.bt_runs.specs.model.Depth.{DepthInterval, coverage, depth_lines}
 use Rattle.bt_runs.specs.model.Gaps.{complement}
 use Rattle.bt_runs.specs.calls.Complementing.{length_in}
-use Rattle.bt_tool.specs.model.Report.{entries_in, Inputs, report_of, order_of, or_empty}
+use Rattle.bt_tool.specs.model.Report.{entries_in, Inputs, report_of, order_in_use, or_empty}
 use Rattle.bt_runs.specs.declared.merge.merge_strand.MergeStrand.{MergeStrand}
 use Rattle.bt_runs.specs.declared.merge.merge_strand.MergeStrand.TheVariants.{All, Each}
 use Rattle.bt_tool.specs.declared.planning.plan_type.Command.{Command}
 use Rattle.bt_tool.specs.declared.planning.plan_type.Command.TheVariants.{Merge, Complement, Coverage, Intersect, Subtract, MaskFasta}
-use Rattle.bt_laws.specs.WholeRuns.{RunWrites, RunsWithoutFault, first_records, second_records, piped, with_second, second_alone, two_texts}
+use Rattle.bt_laws.specs.WholeRuns.{RunWrites, RunsWithoutFault, first_records, second_records, piped, with_second_input, second_alone, two_texts}
 use Rattle.std.specs.List.{AllByRecursion, list_any}
 use Rattle.bt_sweep.specs.calls.Sweeping.{any_overlap}
 use Rattle.bt_sweep.specs.declared.hits.hit_rule.HitRule.{HitRule}
@@ -24,7 +24,7 @@ use Rattle.bt_lines.specs.model.Lines.{Handed, whole_text}
 use Rattle.bt_lines.specs.declared.fault.Input.TheVariants.{First, Second}
 use Rattle.bt_lines.specs.declared.reader.line.LineEnd.{LineEnd}
 use Rattle.bt_bed.specs.model.Good.{items_in, block_good}
-use Rattle.bt_seq.specs.model.Masked.{covers, names_of, own_records, SequenceLine, bases_up_to, sequence_good}
+use Rattle.bt_seq.specs.model.Masked.{record_covers, names_of_sequences, own_records, SequenceLine, bases_up_to, sequence_good}
 use Rattle.bt_seq.specs.declared.mask.mask_how.MaskHow.{MaskHow}
 use Rattle.bt_seq.specs.declared.mask.mask_how.MaskHow.TheVariants.{Soft, Hard}
 
@@ -124,21 +124,21 @@ abbrev pub merged_second_once : Type 0
 merged_second_once =
     (both : Bool) (held : Option ℕ) (inputs : Inputs) (chromosomes : Option (List Entry))
     → RunsWithoutFault (Intersect Once (one_base both) held) inputs chromosomes
-    → RunWrites (Intersect Once (one_base both) None) (with_second (Merge 0 All) inputs)
+    → RunWrites (Intersect Once (one_base both) None) (with_second_input (Merge 0 All) inputs)
     (report_of (Intersect Once (one_base both) held) inputs).output
 
 abbrev pub merged_second_missing : Type 0
 merged_second_missing =
     (both : Bool) (held : Option ℕ) (inputs : Inputs) (chromosomes : Option (List Entry))
     → RunsWithoutFault (Intersect Missing (one_base both) held) inputs chromosomes
-    → RunWrites (Intersect Missing (one_base both) None) (with_second (Merge 0 All) inputs)
+    → RunWrites (Intersect Missing (one_base both) None) (with_second_input (Merge 0 All) inputs)
     (report_of (Intersect Missing (one_base both) held) inputs).output
 
 abbrev pub merged_second_subtract : Type 0
 merged_second_subtract =
     (held : Option ℕ) (inputs : Inputs) (chromosomes : Option (List Entry))
     → RunsWithoutFault (Subtract false any_overlap held) inputs chromosomes
-    → RunWrites (Subtract false any_overlap None) (with_second (Merge 0 All) inputs)
+    → RunWrites (Subtract false any_overlap None) (with_second_input (Merge 0 All) inputs)
     (report_of (Subtract false any_overlap held) inputs).output
 
 -- the records lie within the lengths of the genome file
@@ -152,7 +152,7 @@ subtract_by_complement =
     (held : Option ℕ) (inputs : Inputs) (entries : List Entry)
     → RunsWithoutFault (Subtract false any_overlap held) inputs (Some entries)
     → LieWithinLengths entries (first_records (Some entries) inputs)
-    → RunWrites (Intersect Cut any_overlap None) (with_second (Complement false) inputs)
+    → RunWrites (Intersect Cut any_overlap None) (with_second_input (Complement false) inputs)
     (report_of (Subtract false any_overlap held) inputs).output
 
 -- Runs of merge, complement and genomecov that write the same bytes, as far as the lengths of the
@@ -172,7 +172,7 @@ complement_of_complement =
     (inputs : Inputs) (entries : List Entry)
     → RunsWithoutFault (Complement false) inputs (Some entries)
     → AllByRecursion (λ entry. is_header entry.name ≡ false) entries
-    → let runs = ordered_runs (order_of (Some entries)) 0 All (first_records (Some entries) inputs) in
+    → let runs = ordered_runs (order_in_use (Some entries)) 0 All (first_records (Some entries) inputs) in
     RunWrites (Merge 0 All) inputs (interval_lines runs)
     × RunWrites (Complement false) (piped (Complement false) inputs)
     (interval_lines (flat_map (cut_at_length entries) runs))
@@ -286,7 +286,7 @@ bed_records inputs = items_in (block_good Second (or_empty inputs.second))
 -- sequence covers it
 abbrev pub is_masked : Inputs → SequenceLine → ℕ → Bool
 is_masked inputs line position =
-    list_any (covers position) (own_records line.names (bed_records inputs))
+    list_any (record_covers position) (own_records line.names (bed_records inputs))
 
 -- the lines of the first input
 abbrev pub sequence_lines : Bool → Inputs → List SequenceLine
@@ -353,7 +353,7 @@ abbrev pub masked_by_sorted : Type 0
 masked_by_sorted =
     (how : MaskHow) (full : Bool) (inputs other both : Inputs) (chromosomes : Option (List Entry))
     → KeepsLines how
-    → AllByRecursion (NamesOne (names_of (sequence_lines full inputs))) (bed_records both)
+    → AllByRecursion (NamesOne (names_of_sequences (sequence_lines full inputs))) (bed_records both)
     → RunsWithoutFault (MaskFasta how full) inputs chromosomes
     → RunsWithoutFault (MaskFasta how full) (with_bed inputs other) chromosomes
     → RunsWithoutFault (MaskFasta how full) (with_bed inputs both) chromosomes

@@ -10,9 +10,9 @@ use Rattle.bt_bed.specs.model.Good.{Good, items_in, block_good}
 use Rattle.bt_bed.specs.calls.Orders.{AreInBlocks}
 use Rattle.bt_bed.specs.model.Meeting.{Rule, join_report, written, Met}
 use Rattle.bt_lines.specs.model.Fault.{FaultValue}
-use Rattle.bt_seq.specs.model.Masked.{decided, mask_rule, masked_line, SequenceLine, Block, blocks_by, names_behind, sequence_good, mask_met}
+use Rattle.bt_seq.specs.model.Masked.{line_decided, mask_rule, masked_line, SequenceLine, Block, blocks_by, names_behind, sequence_good, mask_met}
 use Rattle.bt_seq.specs.declared.mask.mask_how.MaskHow.{MaskHow}
-use Rattle.bt_seq.specs.calls.MaskStage.{MaskStage, held_for}
+use Rattle.bt_seq.specs.calls.MaskStage.{MaskStage, held_for_line}
 use Rattle.bt_seq.specs.calls.MaskState.{Masking, left_after}
 use Rattle.bt_seq.specs.calls.MaskSteps.{IsOpen, GivesBed}
 use Rattle.bt_lines.specs.calls.Output.{Output}
@@ -43,8 +43,8 @@ blocks_are_within =
     → AreBetween a.start a.stop (alignment_blocks split a)
 
 -- the bytes of a part
-abbrev pub spelled : Part → List ℕ
-spelled part = part.digits ++ part.letter ∷ []
+abbrev pub part_bytes : Part → List ℕ
+part_bytes part = part.digits ++ part.letter ∷ []
 
 -- whether a part is a number and the letter of an operation
 abbrev pub is_operation : Part → Bool
@@ -52,7 +52,7 @@ is_operation part = is_number part.digits && is_letter part.letter
 
 -- the parts are a division of the text into numbers and letters
 pub record Divides (text : List ℕ) (parts : List Part) : Type 0 where
-  pub whole : flat_map spelled parts ≡ text
+  pub whole : flat_map part_bytes parts ≡ text
   pub all : IsTrue (list_all is_operation parts)
 
 -- a text can be divided in one way only
@@ -78,7 +78,7 @@ operations_are_divided =
 -- what the first records of the second input make of the lines
 abbrev pub early_mask_rule : MaskHow → List Feature → Rule SequenceLine ℕ FaultValue
 early_mask_rule how records = record {
-  decided = λ line. decided line records;
+  line_decided = λ line. line_decided line records;
   lines = masked_line how records;
   fault = None;
   last = None;
@@ -109,7 +109,7 @@ faultless_are_masked =
 abbrev pub taken_are_first : Type 0
 taken_are_first = (lines : List SequenceLine) (before rest : List Feature)
     → IsOpen (last_or None lines) (before ++ rest)
-    → (before ++ rest ≡ []) ⊎ (AllByRecursion (λ line. decided line before ≡ true) lines → ⊥)
+    → (before ++ rest ≡ []) ⊎ (AllByRecursion (λ line. line_decided line before ≡ true) lines → ⊥)
 
 -- a record that leaves the line undecided and hasn't to be held is taken, and nothing is written
 abbrev pub quiet_records_are_taken : Type 0
@@ -118,8 +118,8 @@ quiet_records_are_taken =
     (out : Output)
     (answer : Result Taken Fault) (new : Masking) (grown : Output)
     → GivesBed how full stage line r out answer new grown
-    → decided line (stage.inputs.taken ++ r ∷ []) ≡ false
-    → held_for line (stage.inputs.taken ++ r ∷ []) ≡ held_for line stage.inputs.taken
+    → line_decided line (stage.inputs.taken ++ r ∷ []) ≡ false
+    → held_for_line line (stage.inputs.taken ++ r ∷ []) ≡ held_for_line line stage.inputs.taken
     → (answer ≡ Ok Yes) × (grown ≡ out)
 
 -- Laws of blocks and of the sequences to which they belong.

@@ -5,7 +5,7 @@ use Rattle.bt_lines.specs.declared.fault.Input.TheVariants.{First, Second}
 use Rattle.bt_bed.specs.model.Feature.{Feature}
 use Rattle.bt_bed.specs.model.Good.{items_in, bed_good}
 use Rattle.bt_bed.specs.model.Genome.{Entry}
-use Rattle.bt_tool.specs.model.Report.{order_of, Inputs, or_empty, chromosomes_of, report_of}
+use Rattle.bt_tool.specs.model.Report.{order_in_use, Inputs, or_empty, chromosomes_of, report_of}
 use Rattle.bt_tool.specs.declared.planning.plan_type.Command.{Command}
 
 -- a run without a fault, by the chromosomes of its genome file, or without one
@@ -22,11 +22,11 @@ pub record RunWrites (command : Command) (inputs : Inputs) (bytes : List ℕ) : 
 -- the records of the inputs
 abbrev pub first_records : Option (List Entry) → Inputs → List Feature
 first_records chromosomes inputs =
-    items_in (bed_good First (order_of chromosomes) inputs.first)
+    items_in (bed_good First (order_in_use chromosomes) inputs.first)
 
 abbrev pub second_records : Option (List Entry) → Inputs → List Feature
 second_records chromosomes inputs =
-    items_in (bed_good Second (order_of chromosomes) (or_empty inputs.second))
+    items_in (bed_good Second (order_in_use chromosomes) (or_empty inputs.second))
 
 -- the inputs of the next run in a pipe: the output of the first run instead of its first input
 abbrev pub piped : Command → Inputs → Inputs
@@ -46,8 +46,8 @@ abbrev pub of_second : Command → Inputs → List ℕ
 of_second command inputs = (report_of command (second_alone inputs.genome inputs)).output
 
 -- the inputs with that instead of the second
-abbrev pub with_second : Command → Inputs → Inputs
-with_second command inputs = record {
+abbrev pub with_second_input : Command → Inputs → Inputs
+with_second_input command inputs = record {
   genome = inputs.genome;
   first = inputs.first;
   second = Some (whole_text (of_second command inputs));

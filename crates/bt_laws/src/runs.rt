@@ -8,7 +8,7 @@ ghost use Rattle.bt_bed.specs.model.Order.{Order, rank_order};
 ghost use Rattle.bt_runs.specs.calls.Engine.{SettledBegins, SettledStays};
 ghost use Rattle.bt_runs.specs.declared.merge.merge_strand.MergeStrand.{MergeStrand};
 ghost use Rattle.bt_runs.specs.model.Merged.{counted, merged, runs_of, merged_runs, ordered_runs, settled_strand_runs, strand_runs};
-ghost use Rattle.bt_runs.specs.calls.MergedRuns.{Bridged, AreTaken, settled_runs};
+ghost use Rattle.bt_runs.specs.calls.MergedRuns.{Bridged, AreMergeable, settled_runs};
 ghost use Rattle.bt_laws.specs.Merges.{one_run_is_kept, strand_runs_divide, strands_stay_in_order, strand_runs_come_in_order, strand_runs_come_in_turn, strand_runs_start_with_records};
 ghost use Rattle.bt_laws.specs.Runs.{chromosomes_are_named_once, file_runs_are_ordered, names_come_in_order, one_place_is_kept, settled_gaps_begin, settled_gaps_stay, settled_depths_begin, settled_depths_stay, levels_are, levels_only, scan_finds_levels, stretches_are_levels, covered_have_depth, gaps_are_levels, gaps_have_depth_0, touching_runs_are_levels, runs_are_levels};
 ghost use Rattle.bt_runs.specs.model.Gaps.{gaps_of};
@@ -46,8 +46,8 @@ pub fn runs_come_in_file_order()
 
 /// No later record changes a settled run, and all runs but one are settled.
 pub fn settled_runs_are_a_prefix()
-    ensures stay { (gap : ℕ) (strand : MergeStrand) → SettledStays (settled_runs gap strand) AreTaken }
-    ensures begin { (gap : ℕ) (strand : MergeStrand) → SettledBegins (settled_runs gap strand) (merged_runs gap strand) AreTaken }
+    ensures stay { (gap : ℕ) (strand : MergeStrand) → SettledStays (settled_runs gap strand) AreMergeable }
+    ensures begin { (gap : ℕ) (strand : MergeStrand) → SettledBegins (settled_runs gap strand) (merged_runs gap strand) AreMergeable }
     ensures kept { one_run_is_kept }
 {}
 
@@ -55,8 +55,8 @@ pub fn settled_runs_are_a_prefix()
 /// others. The runs of one strand are listed in their order, each once.
 #[tactic(auto, using(bt_runs::proofs::lemmas::merge::StrandSettling::stay, bt_runs::proofs::lemmas::merge::StrandSettling::begin, crate::proofs::lemmas::single::LevelLemmas::divide, crate::proofs::lemmas::single::LevelLemmas::in_order))]
 pub fn settled_strand_runs_are_a_prefix()
-    ensures stay { (gap : ℕ) → SettledStays (settled_strand_runs gap) AreTaken }
-    ensures begin { (gap : ℕ) → SettledBegins (settled_strand_runs gap) (strand_runs gap) AreTaken }
+    ensures stay { (gap : ℕ) → SettledStays (settled_strand_runs gap) AreMergeable }
+    ensures begin { (gap : ℕ) → SettledBegins (settled_strand_runs gap) (strand_runs gap) AreMergeable }
     ensures kept { strand_runs_divide }
     ensures order { strands_stay_in_order }
 {}

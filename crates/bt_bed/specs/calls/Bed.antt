@@ -100,15 +100,15 @@ is_on name (Ok None) = false
 is_on name (Ok (Some r)) = bytes_eq r.chrom name
 
 -- a record on it that doesn't start before this
-abbrev pub placed_on : List ℕ → ℕ → Result (Option Feature) Kind → Option Feature
-placed_on name start (Err kind) = None
-placed_on name start (Ok None) = None
-placed_on name start (Ok (Some r)) =
+abbrev pub placed_record : List ℕ → ℕ → Result (Option Feature) Kind → Option Feature
+placed_record name start (Err kind) = None
+placed_record name start (Ok None) = None
+placed_record name start (Ok (Some r)) =
     if bytes_eq r.chrom name then (if nat_lt r.start start then None else Some r) else None
 
 -- the record that a line says, if it is one on the chromosome of this name that doesn't start before this
 unfoldable pub record_on : List ℕ → ℕ → List ℕ → Option Feature
-record_on name start text = placed_on name start (record_of text)
+record_on name start text = placed_record name start (record_of text)
 
 abbrev pub run_then : Option Feature → (ℕ → List Feature) → List Feature
 run_then None more = []

@@ -25,7 +25,7 @@ use Rattle.bt_sweep.specs.calls.LineLaws.{spans_of}
 use Rattle.bt_sweep.specs.declared.hits.hit_rule.HitRule.{HitRule}
 use Rattle.bt_sweep.specs.declared.output.shape.Shape.TheVariants.{OrigBoth, Cut, Pieces}
 use Rattle.bt_sweep.proofs.lemmas.definitions.HitLemmas.{enough_of_nothing}
-use Rattle.bt_tool.specs.model.Report.{order_of, or_empty}
+use Rattle.bt_tool.specs.model.Report.{order_in_use, or_empty}
 use Rattle.bt_tool.specs.declared.planning.plan_type.Command.TheVariants.{Intersect, Subtract}
 use Rattle.bt_laws.proofs.lemmas.same.SameSweeps.{writes_lines, met_faultless, other_input, sweeps_from, other_shape, hit_back, hit_to}
 use Rattle.bt_runs.specs.model.Merged.{is_covered}
@@ -233,7 +233,7 @@ pair_lines rule (a ∷ first) second = grind (arith, (pair_lines rule first seco
 
 pub two_sides : pairs_have_two_sides
 two_sides rule held inputs chromosomes even well =
-    let order = order_of chromosomes in
+    let order = order_in_use chromosomes in
     let firsts = first_records chromosomes inputs in
     let seconds = second_records chromosomes inputs in
     let nones = met_faultless order OrigBoth rule held (bed_good First order inputs.first) (bed_good Second order (or_empty inputs.second)) (well_there (Intersect OrigBoth rule held) inputs chromosomes well) in

@@ -1,7 +1,7 @@
 //! Laws of alignments and of their blocks.
 
 ghost use Rattle.std.specs.Prelude.{◌≡◌, [], ◌∷◌, Some, None, Ok, Err, codes, true, false};
-ghost use Rattle.bt_seq.specs.model.Alignment.{alignment_of, blocks_in, length_of, operations_of};
+ghost use Rattle.bt_seq.specs.model.Alignment.{alignment_of, blocks_in, cigar_length, operations_of};
 ghost use Rattle.bt_seq.specs.calls.Alignments.{sam_kinds_are_of_lines, wrong_have_sam_kinds};
 ghost use Rattle.bt_laws.specs.Sequences.{blocks_are_within, unskipped_are_one_block, division_is_found, division_is_one, operations_are_divided};
 
@@ -19,14 +19,14 @@ pub fn cigars_are_divided_in_one_way()
 /// The reference lengths of small CIGARs.
 #[tactic(auto, unfolding(bt_seq::specs::model::Alignment::operations_in, bt_lines::specs::model::Lines::value_of))]
 pub fn lengths_of_small_cigars()
-    ensures star { length_of (codes "*") ≡ Some 0 }
-    ensures empty { length_of [] ≡ None }
-    ensures no_number { length_of (codes "M") ≡ None }
-    ensures no_letter { length_of (codes "5") ≡ None }
-    ensures star_behind { length_of (codes "5*") ≡ None }
-    ensures each_letter { length_of (codes "3S5M2I1D4N6=1X2H1P") ≡ Some 17 }
-    ensures large { length_of (codes "999999999999M999999999999M") ≡ Some 1999999999998 }
-    ensures too_large { length_of (codes "1000000000000M") ≡ None }
+    ensures star { cigar_length (codes "*") ≡ Some 0 }
+    ensures empty { cigar_length [] ≡ None }
+    ensures no_number { cigar_length (codes "M") ≡ None }
+    ensures no_letter { cigar_length (codes "5") ≡ None }
+    ensures star_behind { cigar_length (codes "5*") ≡ None }
+    ensures each_letter { cigar_length (codes "3S5M2I1D4N6=1X2H1P") ≡ Some 17 }
+    ensures large { cigar_length (codes "999999999999M999999999999M") ≡ Some 1999999999998 }
+    ensures too_large { cigar_length (codes "1000000000000M") ≡ None }
 {}
 
 /// What small texts say.

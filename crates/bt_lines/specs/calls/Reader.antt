@@ -38,8 +38,8 @@ abbrev pub lines_after : BufferedLines → ℕ → List TextLine
 lines_after cursor size = buffered_lines cursor.is_open (cursor.lines + 1) (drop size (rest_in cursor))
 
 -- the first one
-abbrev pub line_of : BufferedLines → Shown → TextLine
-line_of cursor line = record {
+abbrev pub shown_text_line : BufferedLines → Shown → TextLine
+shown_text_line cursor line = record {
   number = suc cursor.lines;
   text = line.text;
   ending = ending_at cursor.is_open (nat_lt (length line.text + 1) line.size);

@@ -45,7 +45,7 @@ pub struct LineText<'a> {
 #[tactic(auto, unfolding(crate::specs::calls::Reader::rest_in, crate::specs::calls::Reader::lines_in))]
 impl<'a> BufferedLines<'a> {
     ghost use Rattle.std.specs.Prelude.{◌≡◌, ◌+◌, ◌-◌, ◌≤◌, ◌<◌, ◌^◌, ◌∷◌, [], IfNone, IfSome, drop, length, nat_eq, slice_range, take, true};
-    ghost use Rattle.bt_lines.specs.calls.Reader.{BeginsLines, IsWhere, PassesLine, PassesLines, lines_after, lines_in, line_of, rest_in};
+    ghost use Rattle.bt_lines.specs.calls.Reader.{BeginsLines, IsWhere, PassesLine, PassesLines, lines_after, lines_in, shown_text_line, rest_in};
     ghost use Rattle.bt_lines.specs.calls.Line.{Cut, Shown, shown_of, line_seen};
     ghost use Rattle.bt_lines.specs.inside.Shape.{IsLast, is_fed};
 
@@ -92,7 +92,7 @@ impl<'a> BufferedLines<'a> {
     #[inline(always)]
     pub fn first(&self) -> Option<LineText<'a>>
         ensures cut { IsFirst (rest_in self.now) (option_map line_shown result) }
-        ensures some { IfSome result (λ line. lines_in self.now ≡ line_of self.now (line_shown line) ∷ lines_after self.now line.size) }
+        ensures some { IfSome result (λ line. lines_in self.now ≡ shown_text_line self.now (line_shown line) ∷ lines_after self.now line.size) }
         ensures none { IfNone result (lines_in self.now ≡ []) }
     {
         if self.is_empty() {
@@ -110,7 +110,7 @@ impl<'a> BufferedLines<'a> {
     pub fn first_line(&self) -> &'a [u8]
         ensures prefix { take (length result.now) (rest_in self.now) ≡ result.now }
         ensures some { 0 < length (rest_in self.now) → Cut (rest_in self.now) (shown_of result.now)
-            × (lines_in self.now ≡ line_of self.now (shown_of result.now) ∷ lines_after self.now (length result.now + 1)) }
+            × (lines_in self.now ≡ shown_text_line self.now (shown_of result.now) ∷ lines_after self.now (length result.now + 1)) }
         ensures none { rest_in self.now ≡ [] → lines_in self.now ≡ [] }
     {
         let rest = self.rest();

@@ -8,7 +8,7 @@ use Rattle.bt_lines.specs.declared.fault.Fault.{Fault}
 use Rattle.bt_bed.specs.model.Feature.{Feature}
 use Rattle.bt_runs.specs.calls.Engine.{EngineDef, FailsAtGiven, KeepsFault, TakesGiven, WritesFirst, WritesLeft, WritesLeftPrefix, WritesPrefix, WritesSettled, Feeds, Finishes, IsWanted, FeedsBatch, TakesEach, ruled, ruled_fault}
 use Rattle.bt_lines.proofs.lemmas.Writer.{cut_off, fails_then, grown_more, grows_nothing}
-use Rattle.bt_runs.specs.inside.Walk.{Does, EnterAnswers, FitsPast, Follows, PutsRestAtEnd, RuleDef, Taken, StepsEach, StepsGiven, StepsUpTo}
+use Rattle.bt_runs.specs.inside.Walk.{Does, EnterAnswers, FitsPast, FollowsCursor, PutsRestAtEnd, RuleDef, Taken, StepsEach, StepsGiven, StepsUpTo}
 use Rattle.bt_runs.specs.declared.engine.failure.Failure.{Failure}
 use Rattle.bt_runs.specs.declared.engine.rule.Ruled.{Ruled}
 use Rattle.bt_bed.specs.calls.Bed.{single_left}
@@ -166,7 +166,7 @@ module _ {E : Type 0} (rule : RuleDef E) where
     taken_given old new passed grown t = record { records = t.records; given = t.given; taken = taken_each old out t.records new grown t.each }
 
     -- an engine that hasn't failed takes the records of a cursor
-    pub batch_fed : (old : Ruled E) (result : Result (Unit {0}) Fault) (new : Ruled E) (passed : C) (grown : Output) → old.failure ≡ None → Follows rule cursor old.rule start out result new.rule passed grown
+    pub batch_fed : (old : Ruled E) (result : Result (Unit {0}) Fault) (new : Ruled E) (passed : C) (grown : Output) → old.failure ≡ None → FollowsCursor rule cursor old.rule start out result new.rule passed grown
         → Keeps result new → FeedsBatch (ruled rule.engine) cursor old start out result new passed grown
     batch_fed old (Ok done) new passed grown was f kept = (rw (going_is old was, going_is new kept) (taken_given old.rule new.rule passed grown f.0), f.1)
     batch_fed old (Err fault) new passed grown was f kept = inr (rw (going_is old was) (record {

@@ -37,7 +37,7 @@ kept_place entries records =
 
 -- records that a complement or a coverage may take: they are in the order of the genome file, which
 -- has each chromosome once, and each has a base
-pub record AreTaken (entries : List Entry) (records : List Feature) : Type 0 where
+pub record AreInGenomeOrder (entries : List Entry) (records : List Feature) : Type 0 where
   pub distinct : AreDistinct (genome_names entries)
   pub placed : ArePlaced (rank_order (genome_names entries)) (intervals_of records)
   pub full : AreNonEmpty (intervals_of records)
@@ -73,7 +73,7 @@ held_count first past = length (kept_place first.entries past)
 -- what a complement takes, writes and keeps, until it has failed
 abbrev pub complementing : EngineDef Complementing
 complementing = record {
-  takes = λ first past. AreTaken first.entries past;
+  takes = λ first past. AreInGenomeOrder first.entries past;
   settled = settled_lines;
   -- the lines of all gaps
   output = λ first past. interval_lines (complement first.limit first.entries past);

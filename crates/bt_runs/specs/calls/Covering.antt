@@ -11,8 +11,8 @@ use Rattle.bt_runs.specs.inside.Coverage.{begun_seen, Known, begun_to, depth_wal
 use Rattle.bt_bed.specs.model.Levels.{Level}
 use Rattle.bt_bed.specs.calls.LevelScan.{Begun}
 use Rattle.bt_runs.specs.model.Depth.{DepthInterval, coverage, depth_lines, is_counted_by, settled_depths, levels_of, depth_of, counted_on}
-use Rattle.bt_runs.specs.calls.Complementing.{AreTaken, length_in}
-use Rattle.bt_runs.specs.inside.Walk.{AreReached, Place, RuleDef, entry_at, is_on, places, walk_step}
+use Rattle.bt_runs.specs.calls.Complementing.{AreInGenomeOrder, length_in}
+use Rattle.bt_runs.specs.inside.Walk.{AreReached, Place, RuleDef, entry_at, is_reached, places, walk_step}
 use Rattle.bt_runs.specs.declared.coverage.depth_rule.CurrentChrom.{CurrentChrom}
 use Rattle.bt_runs.specs.declared.coverage.depths.OpenInterval.{OpenInterval}
 use Rattle.bt_runs.specs.declared.engine.rule.Ruled.{Ruled}
@@ -26,8 +26,8 @@ cut_at size s = record { start = s.start; stop = min s.stop size }
 
 -- the spans that start below a length, cut there, of which those are left that end at a position
 -- or past it
-abbrev pub open_at : ℕ → ℕ → List Span → List Span
-open_at size p spans =
+abbrev pub spans_open_at : ℕ → ℕ → List Span → List Span
+spans_open_at size p spans =
     filter (λ s. nat_le p s.stop) (map (cut_at size) (filter (λ s. nat_lt s.start size) spans))
 
 -- the records that are kept: the counted ones on the last record's chromosome that start below its
@@ -35,7 +35,7 @@ open_at size p spans =
 unfoldable pub kept_records : Option Strand → List Entry → List Feature → List Span
 kept_records strand entries records =
     option_map_or (λ (last : Interval).
-    open_at (length_in entries last.chrom) last.start (counted_on strand last.chrom records))
+    spans_open_at (length_in entries last.chrom) last.start (counted_on strand last.chrom records))
     (last_of (intervals_of records)) []
 
 -- the first of the intervals that begins below a position and ends there or past it,
@@ -104,7 +104,7 @@ wants_memory old r = (is_counted_by old.strand r.strand ≡ true) × (r.start < 
 -- what a coverage takes, writes and keeps, until it has failed
 abbrev pub covering : EngineDef Covering
 covering = record {
-  takes = λ first past. AreTaken first.entries past;
+  takes = λ first past. AreInGenomeOrder first.entries past;
   -- the lines of the settled intervals, and of all
   settled = λ first past. depth_lines (settled_depths first.zeros first.strand first.entries past);
   output = λ first past. depth_lines (coverage first.zeros first.strand first.entries past);
@@ -136,9 +136,9 @@ IsEntry entries (Some place) name size =
 -- the record's chromosome is the one that was reached, or the genome file doesn't have it
 abbrev pub IsOnBy : Bool → List Entry → Option (Place Known) → List ℕ → ℕ → List ℕ → Type 0
 IsOnBy true entries current name size chrom =
-    (is_on entries current chrom ≡ true) × IsEntry entries current name size
+    (is_reached entries current chrom ≡ true) × IsEntry entries current name size
 IsOnBy false entries current name size chrom =
-    (is_on entries current chrom ≡ false) × (rank_of (genome_names entries) chrom ≡ None)
+    (is_reached entries current chrom ≡ false) × (rank_of (genome_names entries) chrom ≡ None)
 
 abbrev pub IsOnChrom : Covering → List ℕ → Type 0
 IsOnChrom coverage chrom =

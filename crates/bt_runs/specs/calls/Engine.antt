@@ -100,7 +100,7 @@ module _ {E : Type 0} (engine : EngineDef E) where
       pub sink_failed : grown.sink_has_failed ≡ true
 
     -- what is kept couldn't grow
-    pub record RunsOut (answer : FaultValue) (new : E) (grown : Output) : Type 0 where
+    pub record CannotGrow (answer : FaultValue) (new : E) (grown : Output) : Type 0 where
       pub is : answer ≡ no_memory
       -- it is the first fault, and is kept
       pub was_going : engine.fault old ≡ None
@@ -119,7 +119,7 @@ module _ {E : Type 0} (engine : EngineDef E) where
     -- why the record wasn't taken
     abbrev pub NotTaken : FaultValue → E → Output → Type 0
     NotTaken answer new grown =
-        Repeats answer new grown ⊎ (FailsToWrite answer new grown ⊎ RunsOut answer new grown)
+        Repeats answer new grown ⊎ (FailsToWrite answer new grown ⊎ CannotGrow answer new grown)
 
     -- what the result says
     abbrev pub FeedAnswers : {A : Type 0} → Result A Fault → E → Output → Type 0
@@ -153,7 +153,7 @@ module _ {E : Type 0} (engine : EngineDef E) where
     -- if memory runs out first, all of those lines were put
     abbrev pub WritesFirst : {A : Type 0} → Result A Fault → E → Output → Type 0
     WritesFirst result new grown = IfErr result (λ answer. engine.fault old ≡ None → fault_value answer ≡ no_memory
-        → RunsOut (fault_value answer) new grown)
+        → CannotGrow (fault_value answer) new grown)
 
   -- a fault that was returned before is returned again
   abbrev pub AnswersAgain : {A : Type 0} → E → Result A Fault → Type 0
@@ -280,7 +280,7 @@ ruled rule = record {
 -- What holds of every list of which more and more is settled as records come.
 
 -- each next record settles what was settled and more, and what is settled begins the whole
-pub record Settles {T : Type 0} (settled whole : List Feature → List T)
+pub record SettlesMore {T : Type 0} (settled whole : List Feature → List T)
     (Taken : List Feature → Type 0) : Type 0 where
   pub prefix : (past more : List Feature) → Taken (past ++ more) → Taken past
   pub next : (past : List Feature) (r : Feature) → Taken (past ++ r ∷ [])

@@ -18,7 +18,7 @@ pub record Bridged (gap : ℕ) (spans : List Span) (p : ℕ) : Type 0 where
 
 -- records that a merge may take: those of one chromosome are contiguous, their starts don't fall,
 -- and each has a base
-pub record AreTaken (records : List Feature) : Type 0 where
+pub record AreMergeable (records : List Feature) : Type 0 where
   pub contiguous : AreContiguous (intervals_of records)
   pub full : AreNonEmpty (intervals_of records)
 

@@ -4,7 +4,7 @@ use Rattle.std.specs.Prelude.{ℕ, List, [], None}
 use Rattle.bt_bed.specs.model.Feature.{Feature, Interval}
 use Rattle.bt_runs.specs.calls.Engine.{EngineDef, ruled}
 use Rattle.bt_runs.specs.model.Merged.{places_of}
-use Rattle.bt_runs.specs.calls.MergedRuns.{AreTaken}
+use Rattle.bt_runs.specs.calls.MergedRuns.{AreMergeable}
 use Rattle.bt_runs.specs.inside.merge.StrandStep.{stranding}
 use Rattle.bt_runs.specs.calls.Unstranded.{unstranded}
 use Rattle.bt_runs.specs.declared.merge.merge_strand.MergeStrand.{MergeStrand}
@@ -39,7 +39,7 @@ of_kind said (PerStrand merge) = said _ (ruled stranding) merge
 -- a merge
 abbrev pub merge_engine : EngineDef Kind
 merge_engine = record {
-  takes = λ first past. AreTaken past;
+  takes = λ first past. AreMergeable past;
   settled = of_kind (λ E engine. engine.settled);
   output = of_kind (λ E engine. engine.output);
   held = of_kind (λ E engine. engine.held);

@@ -4,7 +4,7 @@ use Rattle.bt_bed.specs.model.Feature.{Feature}
 use Rattle.bt_bed.specs.model.BedLine.{interval_lines}
 use Rattle.bt_runs.specs.calls.Engine.{EngineDef, IsOnLast, IsQuiet}
 use Rattle.bt_runs.specs.model.Merged.{StrandRun, places_of, settled_strand_runs, strand_runs}
-use Rattle.bt_runs.specs.calls.MergedRuns.{AreTaken, kept_strand_runs}
+use Rattle.bt_runs.specs.calls.MergedRuns.{AreMergeable, kept_strand_runs}
 
 -- the gap that it bridges, the chromosome that it is on, and the runs that it keeps
 pub record Stranding : Type 0 where
@@ -34,7 +34,7 @@ held_count first past = length (kept_strand_runs first.gap past)
 -- what it takes, writes and keeps, until it has failed; `wants` says when memory may be needed
 abbrev pub stranding_with : (Stranding → Feature → Type 0) → EngineDef Stranding
 stranding_with wants = record {
-  takes = λ first past. AreTaken past;
+  takes = λ first past. AreMergeable past;
   settled = settled_lines;
   -- the lines of all runs
   output = λ first past. strand_lines (strand_runs first.gap past);

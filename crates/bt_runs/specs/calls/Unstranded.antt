@@ -4,7 +4,7 @@ use Rattle.bt_bed.specs.model.Feature.{Feature, Interval}
 use Rattle.bt_bed.specs.model.BedLine.{interval_lines}
 use Rattle.bt_runs.specs.calls.Engine.{EngineDef, IsOnLast, IsQuiet}
 use Rattle.bt_runs.specs.model.Merged.{merged_runs}
-use Rattle.bt_runs.specs.calls.MergedRuns.{AreTaken, kept_runs, settled_runs}
+use Rattle.bt_runs.specs.calls.MergedRuns.{AreMergeable, kept_runs, settled_runs}
 use Rattle.bt_runs.specs.declared.merge.merge_strand.MergeStrand.{MergeStrand}
 
 -- the gap that it bridges, the records that it counts, the chromosome that it is on, and the run that it keeps, if
@@ -34,7 +34,7 @@ held_count first past = length (kept_runs first.gap first.strand past)
 -- what it takes, writes and keeps, until it has failed
 abbrev pub unstranded : EngineDef Unstranded
 unstranded = record {
-  takes = λ first past. AreTaken past;
+  takes = λ first past. AreMergeable past;
   settled = settled_lines;
   -- the lines of all runs
   output = λ first past. interval_lines (merged_runs first.gap first.strand past);

@@ -4,7 +4,7 @@ use Rattle.bt_bed.specs.model.Genome.{Entry}
 use Rattle.bt_bed.specs.model.Feature.{Span}
 use Rattle.bt_bed.specs.declared.record.strand.Strand.{Strand}
 use Rattle.bt_bed.specs.model.Levels.{Level}
-use Rattle.bt_bed.specs.calls.LevelScan.{Begun, begun_after, ended_after, ended_at}
+use Rattle.bt_bed.specs.calls.LevelScan.{Begun, begun_after, ended_after, level_ended_at}
 use Rattle.bt_runs.specs.model.Depth.{DepthInterval, depth_of, depth_on, is_counted_by, depth_lines}
 use Rattle.bt_runs.specs.inside.Walk.{Walk, Place}
 use Rattle.std.specs.BinaryHeap.{IsHeap}
@@ -38,7 +38,7 @@ begun_to zeros known stop =
 -- the intervals that are left up to the chromosome's length
 abbrev pub levels_left : Bool → ℕ → Known → List Level
 levels_left zeros size known =
-    ended_to zeros known size ++ ended_at (begun_to zeros known size) size
+    ended_to zeros known size ++ level_ended_at (begun_to zeros known size) size
 
 -- those that are settled by a record's start: all that are left, if it lies past the length
 abbrev pub levels_by : Bool → ℕ → Known → ℕ → List Level

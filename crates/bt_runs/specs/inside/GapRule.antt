@@ -6,7 +6,7 @@ use Rattle.bt_bed.specs.model.Genome.{genome_names}
 use Rattle.bt_bed.specs.calls.GenomeTable.{entries}
 use Rattle.bt_bed.specs.model.Order.{rank_of}
 use Rattle.bt_runs.specs.calls.Complementing.{Complementing, complementing, length_in}
-use Rattle.bt_runs.specs.inside.Walk.{is_on, walk_step, Place, RuleDef}
+use Rattle.bt_runs.specs.inside.Walk.{is_reached, walk_step, Place, RuleDef}
 use Rattle.bt_runs.specs.inside.GapStep.{gap_walk}
 use Rattle.bt_runs.specs.declared.complement.gap_cursor.GapCursor.{GapCursor}
 
@@ -31,18 +31,18 @@ complement_at limit cursor = record {
 }
 
 -- the records are on the chromosome of this name: the one that was reached, or one that the genome file lacks
-pub record IsOnChrom (complement : Complementing) (name : List ℕ) : Type 0 where
+pub record StandsOnChrom (complement : Complementing) (name : List ℕ) : Type 0 where
   pub bases : complement.bases ≡ length_in complement.entries name
-  pub at : (is_on complement.entries complement.current name ≡ true)
+  pub at : (is_reached complement.entries complement.current name ≡ true)
       ⊎ (rank_of (genome_names complement.entries) name ≡ None)
 
 -- the lines of the gaps that a record settles
-abbrev pub next_lines : Complementing → Feature → List ℕ
-next_lines old r = interval_lines (walk_step (gap_walk old.limit) old.entries old.current r).1
+abbrev pub next_gap_lines : Complementing → Feature → List ℕ
+next_gap_lines old r = interval_lines (walk_step (gap_walk old.limit) old.entries old.current r).1
 
 -- the complement with the record
-abbrev pub with_record : Complementing → Feature → Complementing
-with_record old r = record old {
+abbrev pub complement_with : Complementing → Feature → Complementing
+complement_with old r = record old {
   current = (walk_step (gap_walk old.limit) old.entries old.current r).0;
   bases = length_in old.entries r.chrom;
 }
@@ -51,7 +51,7 @@ with_record old r = record old {
 abbrev pub gap_rule : RuleDef Complementing
 gap_rule = record {
   engine = complementing;
-  lines = next_lines;
-  has = λ old r new. new ≡ with_record old r;
-  is_on = IsOnChrom;
+  lines = next_gap_lines;
+  has = λ old r new. new ≡ complement_with old r;
+  is_reached = StandsOnChrom;
 }

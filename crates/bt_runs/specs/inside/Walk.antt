@@ -36,18 +36,18 @@ pub record Place (S : Type 0) : Type 0 where
   pub known : S
 
 -- one that was reached is the one that has its name
-pub record IsPlaced (entries : List Entry) (rank : ℕ) : Type 0 where
+pub record IsRanked (entries : List Entry) (rank : ℕ) : Type 0 where
   pub within : rank < length entries
   pub named : rank_of (genome_names entries) (entry_at entries rank).name ≡ Some rank
 
 -- if one was reached, it is so
 abbrev pub AreReached : {S : Type 0} → List Entry → Option (Place S) → Type 0
 AreReached entries None = ⊤
-AreReached entries (Some place) = IsPlaced entries place.rank
+AreReached entries (Some place) = IsRanked entries place.rank
 
 -- and it has this name
 pub record IsNamed (entries : List Entry) (rank : ℕ) (name : List ℕ) : Type 0 where
-  pub placed : IsPlaced entries rank
+  pub placed : IsRanked entries rank
   pub is : (entry_at entries rank).name ≡ name
 
 -- how many chromosomes have begun
@@ -56,9 +56,9 @@ begun None = 0
 begun (Some place) = place.rank + 1
 
 -- whether the chromosome of this name is the one that was reached
-abbrev pub is_on : {S : Type 0} → List Entry → Option (Place S) → List ℕ → Bool
-is_on entries None name = false
-is_on entries (Some place) name = bytes_eq (entry_at entries place.rank).name name
+abbrev pub is_reached : {S : Type 0} → List Entry → Option (Place S) → List ℕ → Bool
+is_reached entries None name = false
+is_reached entries (Some place) name = bytes_eq (entry_at entries place.rank).name name
 
 -- the position up to which it is known, on the chromosome that was reached, if one was
 abbrev pub places : {S : Type 0} → (S → ℕ) → List Entry → Option (Place S) → List Locus
@@ -88,7 +88,7 @@ module _ {T S : Type 0} (walk : Walk T S) (entries : List Entry) where
 
   abbrev pub going : Option (Place S) → List ℕ → Option (Place S) × List T
   going current name =
-      cond (is_on entries current name) (current, [])
+      cond (is_reached entries current name) (current, [])
       (going_at current (rank_of (genome_names entries) name))
 
   -- one more record on the chromosome that was reached
@@ -186,6 +186,6 @@ module _ {E : Type 0} (rule : RuleDef E) where
       pub fails : Taken mid r through (Err fault) new grown
 
     -- what the loop over a cursor does: it takes all records that the cursor gives
-    abbrev pub Follows : Result (Unit {0}) Fault → E → C → Output → Type 0
-    Follows (Ok done) new passed grown = StepsGiven new passed grown × cursor.has_ended passed
-    Follows (Err fault) new passed grown = StepsUpTo fault new passed grown
+    abbrev pub FollowsCursor : Result (Unit {0}) Fault → E → C → Output → Type 0
+    FollowsCursor (Ok done) new passed grown = StepsGiven new passed grown × cursor.has_ended passed
+    FollowsCursor (Err fault) new passed grown = StepsUpTo fault new passed grown

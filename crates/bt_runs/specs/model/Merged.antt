@@ -93,14 +93,14 @@ put_in_order order name (n ∷ ns) =
     if is_lt (order.compare name n) then name ∷ n ∷ ns else n ∷ put_in_order order name ns
 
 -- the names in order
-abbrev pub in_order : Order → List (List ℕ) → List (List ℕ)
-in_order order [] = []
-in_order order (n ∷ ns) = put_in_order order n (in_order order ns)
+abbrev pub ordered_names : Order → List (List ℕ) → List (List ℕ)
+ordered_names order [] = []
+ordered_names order (n ∷ ns) = put_in_order order n (ordered_names order ns)
 
 -- the merged runs of the records, their chromosomes in order
 unfoldable pub ordered_runs : Order → ℕ → MergeStrand → List Feature → List Interval
 ordered_runs order gap strand records =
-    merged (in_order order (chromosomes (counted strand records))) gap (counted strand records)
+    merged (ordered_names order (chromosomes (counted strand records))) gap (counted strand records)
 
 -- What `bedtools merge -s` gives: the records of each strand are merged separately (bedtools
 -- manual, merge, option -s), and the runs of all strands are listed by their first records.

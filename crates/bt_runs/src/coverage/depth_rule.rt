@@ -7,7 +7,7 @@ ghost use Rattle.bt_bed.specs.calls.GenomeTable.{entries};
 ghost use Rattle.bt_runs.specs.inside.Coverage.{known_seen, seen, CountAnswers, bare_of, depths_left, known_by, levels_by, levels_left, levels_on};
 ghost use Rattle.bt_runs.specs.calls.Covering.{IsAfter, depth_rule, kept_in, settled_known, with_chrom};
 ghost use Rattle.bt_runs.specs.model.Depth.{depth_lines};
-ghost use Rattle.bt_runs.specs.inside.Walk.{AreReached, begun, is_on, left_before, left_of};
+ghost use Rattle.bt_runs.specs.inside.Walk.{AreReached, begun, is_reached, left_before, left_of};
 
 use crate::coverage::depth_line::put_depth;
 use crate::coverage::depths::{CoveredChrom, DepthCursor, OpenInterval, go_on, put_ended};

@@ -3,7 +3,7 @@
 ghost use Rattle.std.specs.Prelude.{◌≡◌, ◌≤◌, ◌-◌, ◌||◌, ◌==◌, IfOk, OnOk, Option, Some, None};
 ghost use Rattle.bt_lines.specs.calls.Output.{Adds};
 ghost use Rattle.bt_runs.specs.inside.Coverage.{begun_seen, levels_on, still_open};
-ghost use Rattle.bt_bed.specs.calls.LevelScan.{begun_after, ended_after, ended_at, next_begun, next_ended};
+ghost use Rattle.bt_bed.specs.calls.LevelScan.{begun_after, ended_after, level_ended_at, next_begun, next_ended};
 ghost use Rattle.bt_runs.specs.model.Depth.{depth_lines, depth_of, reported};
 
 use crate::coverage::depth_line::put_depth;
@@ -112,7 +112,7 @@ pub(crate) fn put_ended<K: Sink>(
     stop: u64,
     out: &mut Out<K>,
 ) -> Result<(), Fault>
-    ensures { Adds out.old.output (depth_lines (levels_on chrom.now (ended_at (begun_seen begun) stop))) result out.new.output }
+    ensures { Adds out.old.output (depth_lines (levels_on chrom.now (level_ended_at (begun_seen begun) stop))) result out.new.output }
 {
     match begun {
         None => Ok(()),

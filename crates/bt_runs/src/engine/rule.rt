@@ -1,7 +1,7 @@
 //! The rules by which engines take records, and the loop that all of them share.
 
 ghost use Rattle.std.specs.Prelude.{◌≡◌, None, Option, Result, Some, OnOk};
-ghost use Rattle.bt_runs.specs.inside.Walk.{Does, EnterAnswers, FitsPast, Follows, PutsRestAtEnd, RuleDef};
+ghost use Rattle.bt_runs.specs.inside.Walk.{Does, EnterAnswers, FitsPast, FollowsCursor, PutsRestAtEnd, RuleDef};
 
 use crate::engine::failure::Failure;
 use bt_bed::{Cursor, Record};
@@ -120,7 +120,7 @@ fn follow<E: Rule, C: Cursor, K: Sink>(
     records: &mut C,
     out: &mut Out<K>,
 ) -> Result<(), Fault>
-    ensures { Follows E.definition C.Cursor rule.old records.old out.old.output result rule.new records.new out.new.output }
+    ensures { FollowsCursor E.definition C.Cursor rule.old records.old out.old.output result rule.new records.new out.new.output }
 {
     let mut ahead = *records;
     let Some(mut record) = ahead.next() else {

@@ -3,7 +3,7 @@
 ghost use Rattle.std.specs.Prelude.{◌≡◌, ◌<◌, ℕ, List, [], cond, length, true, IfOk};
 ghost use Rattle.bt_lines.specs.calls.Output.{Adds};
 ghost use Rattle.bt_bed.specs.model.BedLine.{interval_lines};
-ghost use Rattle.bt_runs.specs.inside.merge.UnstrandedStep.{left_by, merged_of, settled_by, unstranded_rule, with_record, kept_at};
+ghost use Rattle.bt_runs.specs.inside.merge.UnstrandedStep.{runs_left_by, merged_of, settled_by, unstranded_rule, runs_with, kept_at};
 
 use crate::engine::is_counted;
 use crate::engine::rule::Rule;
@@ -146,7 +146,7 @@ fn close_passed<K: Sink>(
     ensures adds { (stop : ℕ) → Adds out.old.output (interval_lines
         (settled_by gap (kept_at chrom.now run) (record { chrom = chrom.now; start = start; stop = stop }))) result out.new.output }
     ensures left { IfOk result (λ left. (stop : ℕ) → kept_at chrom.now left
-        ≡ left_by gap (kept_at chrom.now run) (record { chrom = chrom.now; start = start; stop = stop })) }
+        ≡ runs_left_by gap (kept_at chrom.now run) (record { chrom = chrom.now; start = start; stop = stop })) }
 {
     let is_closed = (run.stop != 0) & (run.stop < start.saturating_sub(gap));
     if !is_closed {
@@ -163,7 +163,7 @@ fn close_passed<K: Sink>(
 fn joined(run: OpenRun, start: u64, stop: u64, counts: bool) -> OpenRun
     requires { 0 < stop }
     ensures { (chrom : List ℕ) → kept_at chrom result ≡ cond counts
-        (with_record (kept_at chrom run) (record { chrom = chrom; start = start; stop = stop })) (kept_at chrom run) }
+        (runs_with (kept_at chrom run) (record { chrom = chrom; start = start; stop = stop })) (kept_at chrom run) }
 {
     let first = if run.stop == 0 { start } else { run.start };
     let last = if counts { stop } else { 0 };

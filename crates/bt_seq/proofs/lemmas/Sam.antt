@@ -1,7 +1,7 @@
 -- Lemmas on SAM lines and on blocks.
 use Rattle.bt_lines.proofs.Std.{common_steps, ◌≡◌, ℕ, ◌+◌, ◌≤◌, Bool, true, false, List, [], ◌∷◌, ◌++◌, length, Option, Some, None, refl, sym, ap, ◌∙◌, arith, cond, append-nil, add-zero, flat_map, false≢true, nat_tests, sum_by_push, ◌<◌, take, drop, get_or, length-append, length-take, IfSome, is_ascii_digit, list_all, list_all_more, digits_value, and_parts, take-append-drop, take_more, drop_more, take-append-le, get_or_append_left, take_all, ◌-◌, zero, suc, min, ◌||◌, map, list_any, list_any-append, Ok, Err, nat_le, bytes_decides, ⊤, flat_map-append}
 use Rattle.bt_bed.specs.model.Feature.{Span, Feature}
-use Rattle.bt_seq.specs.model.Alignment.{begins_block, block_at, blocks_in, blocks_of, cuts, is_skip, up_to_skip, with_bases, covered_by, operations_in, reference_length, with_operation, Part, is_letter, onto_part, operation_of, each_operation, parts_of, Fields, alignment_of, columns_say, fields_of, fields_say, is_skipped, is_sam_kind}
+use Rattle.bt_seq.specs.model.Alignment.{begins_block, block_at, blocks_in, blocks_of, cuts, is_skip, up_to_skip, with_bases, covered_by, operations_in, reference_length, with_operation, Part, is_letter, onto_part, operation_of, each_operation, parts_of, Fields, alignment_of, sam_columns_say, fields_of, fields_say, is_skipped_sam, is_sam_kind}
 use Rattle.bt_seq.specs.calls.Alignments.{span_with, sam_kinds_are_of_lines, wrong_have_sam_kinds}
 use Rattle.bt_seq.specs.inside.Sam.{none_left, FitBehind}
 use Rattle.bt_seq.specs.declared.sam.cigar.Operation.{Operation}
@@ -9,7 +9,7 @@ use Rattle.std.specs.Prelude.{option_and_then}
 use Rattle.bt_lines.proofs.lemmas.numbers.NumberLemmas.{value_of_digits, value_of_empty, value_of_large, value_of_other}
 use Rattle.bt_lines.specs.model.Lines.{value_of, pieces}
 use Rattle.bt_seq.specs.model.Masked.{masked_byte, Block, Owned, block_decides, block_with, blocks_by, items_if_last, left_by, own_records, owned, owned_from}
-use Rattle.bt_seq.specs.inside.Window.{has_position, masked_in}
+use Rattle.bt_seq.specs.inside.Window.{extent_has, masked_in}
 use Rattle.bt_seq.specs.declared.mask.mask_how.MaskHow.{MaskHow}
 use Rattle.bt_seq.specs.declared.mask.extent.Extent.{Extent}
 use Rattle.bt_lines.specs.declared.fault.Kind.{Kind}
@@ -245,10 +245,10 @@ one_behind how extents s position [] = refl
 one_behind how extents s position (base ∷ bases) = grind (arith, list_any-append, one_behind how extents s (suc position) bases)
 
 module _ (how : MaskHow) (s : Extent) where
-  outside : (position base : ℕ) (bases : List ℕ) → has_position position s ≡ false → base ∷ masked_in how (s ∷ []) (suc position) bases ≡ masked_in how (s ∷ []) position (base ∷ bases)
+  outside : (position base : ℕ) (bases : List ℕ) → extent_has position s ≡ false → base ∷ masked_in how (s ∷ []) (suc position) bases ≡ masked_in how (s ∷ []) position (base ∷ bases)
   outside position base bases e = sym (ap (λ b. cond (b || false) (masked_byte how base) base ∷ masked_in how (s ∷ []) (suc position) bases) e)
 
-  inside : (position base : ℕ) (bases : List ℕ) → has_position position s ≡ true → masked_byte how base ∷ masked_in how (s ∷ []) (suc position) bases ≡ masked_in how (s ∷ []) position (base ∷ bases)
+  inside : (position base : ℕ) (bases : List ℕ) → extent_has position s ≡ true → masked_byte how base ∷ masked_in how (s ∷ []) (suc position) bases ≡ masked_in how (s ∷ []) position (base ∷ bases)
   inside position base bases e = sym (ap (λ b. cond (b || false) (masked_byte how base) base ∷ masked_in how (s ∷ []) (suc position) bases) e)
 
   -- from a position in or after the extent on
@@ -278,7 +278,7 @@ module _ (how : MaskHow) (s : Extent) where
 
 -- What is wrong with a line of a SAM file.
 
-of_columns : (f : Fields) (flag : Option ℕ) (chrom : List ℕ) (p q s : Option ℕ) (kind : Kind) → columns_say f flag chrom p q s ≡ Err kind → is_sam_kind kind ≡ true
+of_columns : (f : Fields) (flag : Option ℕ) (chrom : List ℕ) (p q s : Option ℕ) (kind : Kind) → sam_columns_say f flag chrom p q s ≡ Err kind → is_sam_kind kind ≡ true
 of_columns f flag chrom p q s kind e = grind arith
 
 of_fields : (fields : Option Fields) (kind : Kind) → fields_say fields ≡ Err kind → is_sam_kind kind ≡ true
@@ -291,7 +291,7 @@ of_line false fields kind e = of_fields fields kind e
 
 pub wrong_kinds : wrong_have_sam_kinds
 unfolding alignment_of
-wrong_kinds text kind e = of_line (is_skipped text) (fields_of (pieces 9 text)) kind e
+wrong_kinds text kind e = of_line (is_skipped_sam text) (fields_of (pieces 9 text)) kind e
 
 pub kinds_of_lines : sam_kinds_are_of_lines
 kinds_of_lines x0 e = grind arith

@@ -3,7 +3,7 @@ use Rattle.std.specs.Prelude.{◌≡◌, ℕ, ◌+◌, List, min, Option, Some, 
 use Rattle.bt_lines.specs.declared.fault.Kind.{Kind}
 use Rattle.bt_bed.specs.calls.Reading.{is_of_line}
 use Rattle.bt_seq.specs.declared.sam.cigar.Operation.{Operation}
-use Rattle.bt_seq.specs.model.Alignment.{reference_length, length_of, alignment_of, is_sam_kind}
+use Rattle.bt_seq.specs.model.Alignment.{reference_length, cigar_length, alignment_of, is_sam_kind}
 
 -- the smaller of a reference length, with `more` bases beside it, and a million million
 abbrev pub span_with : ℕ → Option (List Operation) → Option ℕ
@@ -12,7 +12,7 @@ span_with more operations =
 
 -- the CIGAR is well formed, and the end is the start and its reference length
 abbrev pub EndsAt : List ℕ → ℕ → ℕ → Type 0
-EndsAt cigar start stop = option_map (λ length. start + length) (length_of cigar) ≡ Some stop
+EndsAt cigar start stop = option_map (λ length. start + length) (cigar_length cigar) ≡ Some stop
 
 -- what is wrong with a line of a SAM file is a kind of `is_sam_kind`
 abbrev pub wrong_have_sam_kinds : Type 0

@@ -3,7 +3,7 @@ use Rattle.std.specs.Prelude.{◌≡◌, ℕ, ◌&&◌, not, Bool, true, false, 
 use Rattle.std.specs.List.{last_or, list_all}
 use Rattle.bt_bed.specs.model.Feature.{Feature}
 use Rattle.bt_bed.specs.model.BedLine.{fault_at_line}
-use Rattle.bt_seq.specs.model.Masked.{is_header, decided, is_unnamed, Reached, SequenceLine, bases_up_to, masked_line, line_says, masked_text, no_sequence, own_records}
+use Rattle.bt_seq.specs.model.Masked.{is_sequence_header, line_decided, is_unnamed, Reached, SequenceLine, bases_up_to, masked_line, line_says, masked_text, no_sequence, own_records}
 use Rattle.bt_seq.specs.calls.MaskState.{left_after}
 use Rattle.bt_lines.specs.model.Lines.{TextLine}
 use Rattle.bt_lines.specs.declared.fault.Input.TheVariants.{Second}
@@ -43,37 +43,37 @@ reached stage = reached_by (last_or None (given stage.inputs))
 
 -- what is wanted: a record while a line waits, then a line; after the last line the records
 -- that are left; and nothing once both inputs have ended
-abbrev pub want_of : Bool → Bool → Bool → MaskWant
-want_of true lines_ended bed_ended = Bed
-want_of false false bed_ended = Line
-want_of false true false = Bed
-want_of false true true = Nothing
+abbrev pub mask_want_of : Bool → Bool → Bool → MaskWant
+mask_want_of true lines_ended bed_ended = Bed
+mask_want_of false false bed_ended = Line
+mask_want_of false true false = Bed
+mask_want_of false true true = Nothing
 
 abbrev pub want_at : MaskStage → MaskWant
-want_at stage = want_of (is_some stage.inputs.waiting) stage.inputs.first_ended stage.inputs.second_ended
+want_at stage = mask_want_of (is_some stage.inputs.waiting) stage.inputs.first_ended stage.inputs.second_ended
 
 -- a record may be given next: any, or the one that is ahead
-abbrev pub IsNext : Option Feature → Feature → Type 0
-IsNext None r = ⊤
-IsNext (Some ahead) r = ahead ≡ r
+abbrev pub MayComeNext : Option Feature → Feature → Type 0
+MayComeNext None r = ⊤
+MayComeNext (Some ahead) r = ahead ≡ r
 
 -- what is held by a line: of the records of its sequence's block those that start before its end
 -- and reach past its start
-abbrev pub held_for : SequenceLine → List Feature → List Feature
-held_for line records =
+abbrev pub held_for_line : SequenceLine → List Feature → List Feature
+held_for_line line records =
     filter (λ r. nat_lt r.start (bases_up_to line) && nat_lt line.before r.stop)
     (own_records line.names records)
 
 -- what is held by the line that was given last
 abbrev pub held_by : Option SequenceLine → List Feature → List Feature
 held_by None taken = []
-held_by (Some line) taken = held_for line taken
+held_by (Some line) taken = held_for_line line taken
 
 -- whether a line is written because of the record ahead. A header isn't: the record is given again
 -- first, since its block may belong to the sequence that the header begins
 abbrev pub is_written_ahead : Option Feature → List Feature → SequenceLine → Bool
 is_written_ahead None taken line = false
-is_written_ahead (Some r) taken line = not (is_header line.text) && decided line (taken ++ r ∷ [])
+is_written_ahead (Some r) taken line = not (is_sequence_header line.text) && line_decided line (taken ++ r ∷ [])
 
 -- Whether a line is written as soon as it is given. It is if the records have ended, if no header has
 -- come, or if it is no header and the record ahead decides it.
@@ -104,7 +104,7 @@ with_bed_ended stage = record stage { inputs = with_second_ended stage.inputs }
 -- How a masking engine goes on from one stage to another, and which lines are settled then.
 
 -- these lines were consumed of those that are buffered
-pub record PassesLines (old : BufferedLines) (lines : List TextLine) (new : BufferedLines) : Type 0 where
+pub record PassesTextLines (old : BufferedLines) (lines : List TextLine) (new : BufferedLines) : Type 0 where
   pub left_is : lines_in old ≡ lines ++ lines_in new
   pub all_is : new.all ≡ old.all
   pub given : new.lines ≡ old.lines + length lines
@@ -132,7 +132,7 @@ pub record MayFollow (stage : MaskStage) (records : List Feature) : Type 0 where
 pub record SettlesLines (how : MaskHow) (stage : MaskStage) (lines : List SequenceLine)
     (bytes : List ℕ) : Type 0 where
   pub are_decided : (records : List Feature) → MayFollow stage records → stage.inputs.second_ended ≡ false
-      → list_all (λ line. decided line records) lines ≡ true
+      → list_all (λ line. line_decided line records) lines ≡ true
   pub bytes_are : (records : List Feature) → AreInBlocks records → MayFollow stage records
       → flat_map (masked_line how records) lines ≡ bytes
 
@@ -152,12 +152,12 @@ pub record GoesOn (how : MaskHow) (full : Bool) (old : MaskStage) (lines : List 
 -- what is decided stays decided
 abbrev pub decided_lines_stay : Type 0
 decided_lines_stay = (line : SequenceLine) (records more : List Feature)
-    → decided line records ≡ true → decided line (records ++ more) ≡ true
+    → line_decided line records ≡ true → line_decided line (records ++ more) ≡ true
 
 -- and the masked line stays as it is, whatever follows in order
 abbrev pub masked_lines_stay : Type 0
 masked_lines_stay = (how : MaskHow) (line : SequenceLine) (records more : List Feature)
-    → AreInBlocks (records ++ more) → decided line records ≡ true
+    → AreInBlocks (records ++ more) → line_decided line records ≡ true
     → masked_line how (records ++ more) line ≡ masked_line how records line
 
 -- the record that decides a line, and what follows it in order, mask none of its bases
@@ -167,7 +167,7 @@ LineBefore how line taken r = (more : List Feature) → AreInBlocks (taken ++ r 
 
 abbrev pub masked_lines_are_before : Type 0
 masked_lines_are_before = (how : MaskHow) (line : SequenceLine) (taken : List Feature) (r : Feature)
-    → decided line (taken ++ r ∷ []) ≡ true → LineBefore how line taken r
+    → line_decided line (taken ++ r ∷ []) ≡ true → LineBefore how line taken r
 
 -- if the block of each record belongs to a sequence, none lacks one
 abbrev pub owned_lack_none : Type 0
@@ -190,6 +190,6 @@ extent_of r = record { start = r.start; stop = r.stop }
 -- what is held by a line masks it as all records of its block do
 abbrev pub held_mask_alone : Type 0
 held_mask_alone =
-    (how : MaskHow) (line : SequenceLine) (records : List Feature) → is_header line.text ≡ false
-    → masked_in how (map extent_of (held_for line records)) line.before line.text
+    (how : MaskHow) (line : SequenceLine) (records : List Feature) → is_sequence_header line.text ≡ false
+    → masked_in how (map extent_of (held_for_line line records)) line.before line.text
     ≡ masked_text how records line

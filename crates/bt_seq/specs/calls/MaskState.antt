@@ -4,7 +4,7 @@ use Rattle.std.specs.List.{last_or}
 use Rattle.std.specs.Option.{option_map_or}
 use Rattle.bt_bed.specs.model.Feature.{Feature}
 use Rattle.bt_bed.specs.model.BedLine.{fault_at_line}
-use Rattle.bt_seq.specs.model.Masked.{names_behind, is_header, name_in, left_by, Owned, owned}
+use Rattle.bt_seq.specs.model.Masked.{names_behind, is_sequence_header, name_in, left_by, Owned, owned}
 use Rattle.bt_seq.specs.declared.mask.matching.Owner.{Owner}
 use Rattle.bt_seq.specs.declared.mask.matching.Owner.TheVariants.{Own, Earlier, Nobody}
 use Rattle.bt_bed.specs.declared.record.taken.Taken.TheVariants.{Yes, No}
@@ -69,15 +69,15 @@ abbrev pub left_after : List (List ℕ) → List Feature → Option (List (List 
 left_after names records = left_at_last (Some names) (owned names records)
 
 -- whether a record goes on with the block of the last of the records
-abbrev pub goes_on : List Feature → Feature → Bool
-goes_on records r = option_map_or (λ s. bytes_eq s.chrom r.chrom) (last_or None records) false
+abbrev pub goes_on_block : List Feature → Feature → Bool
+goes_on_block records r = option_map_or (λ s. bytes_eq s.chrom r.chrom) (last_or None records) false
 
 -- one more record goes on with the last block, or begins one, whose sequence comes after that of
 -- the last one
 abbrev pub next_goes_on_or_begins : Type 0
 next_goes_on_or_begins = (names : List (List ℕ)) (records : List Feature) (r : Feature)
     → left_after names (records ++ r ∷ [])
-    ≡ (if goes_on records r then left_after names records
+    ≡ (if goes_on_block records r then left_after names records
     else left_by (left_after names records) r.chrom)
 
 -- the last block belongs to the last of the names
@@ -109,7 +109,7 @@ owner_by (Some (name ∷ names)) = Earlier
 abbrev pub owners_are_found : Type 0
 owners_are_found = (names : List (List ℕ)) (records : List Feature) (m : Matched) (r : Feature)
     → Knows names records m
-    → (goes_on records r ≡ false → (e : KnowsEarlier names records m)
+    → (goes_on_block records r ≡ false → (e : KnowsEarlier names records m)
     → names_behind r.chrom e.before ≡ None)
     → owner_of m r.chrom ≡ owner_by (left_after names (records ++ r ∷ []))
 
@@ -134,12 +134,12 @@ pub record Masking : Type 0 where
 
 -- whether a line of this text is at fault: there is text, and no header yet
 abbrev pub is_stray : Masking → List ℕ → Bool
-is_stray m text = not (is_header text) && (is_none m.matched.name && nat_lt 0 (length text))
+is_stray m text = not (is_sequence_header text) && (is_none m.matched.name && nat_lt 0 (length text))
 
 -- with the next line, before it waits or is written
 abbrev pub moved_to : Masking → List ℕ → Masking
 moved_to m text =
-    if is_header text
+    if is_sequence_header text
     then record m { matched = named m.matched (name_in m.full text); window = no_bases }
     else record m { window = gone_on m.window (length text) }
 
@@ -152,26 +152,26 @@ line_bytes m line = masked_in m.how m.window.held m.window.before line.text ++ e
 abbrev pub writes_at_once : Masking → List ℕ → Bool
 writes_at_once m text =
     m.bed_ended || (is_none m.matched.name
-    || (not (is_header text) && nat_le m.window.bases m.decided_to))
+    || (not (is_sequence_header text) && nat_le m.window.bases m.decided_to))
 
 -- whether a line may need memory: a header for its name, and what waits or is masked for its text
 abbrev pub may_grow : Masking → List ℕ → Bool
 may_grow m text =
-    is_header text || (not (writes_at_once m text) || nat_lt 0 (length m.window.held))
+    is_sequence_header text || (not (writes_at_once m text) || nat_lt 0 (length m.window.held))
 
 -- moving to a line
 abbrev pub Moves : {A : Type 0} → Masking → ℕ → List ℕ → Result A Fault → Masking → Type 0
 Moves old number text (Ok done) new = (new ≡ moved_to old text) × (is_stray old text ≡ false)
 Moves old number text (Err fault) new =
     ((fault_value fault ≡ fault_at_line First number TextBeforeHeader) × (is_stray old text ≡ true))
-    ⊎ ((fault_value fault ≡ no_memory) × (is_stray old text ≡ false) × (is_header text ≡ true))
+    ⊎ ((fault_value fault ≡ no_memory) × (is_stray old text ≡ false) × (is_sequence_header text ≡ true))
 
 -- writing the line that waits
-abbrev pub Writes : {A : Type 0} → Masking → Waiting → Output → Result A Fault → Masking → Output
+abbrev pub WritesWaiting : {A : Type 0} → Masking → Waiting → Output → Result A Fault → Masking → Output
     → Type 0
-Writes old line out (Ok done) new grown =
+WritesWaiting old line out (Ok done) new grown =
     (new ≡ record old { waiting = None; want = Line }) × Grown out (line_bytes old line) grown
-Writes old line out (Err fault) new grown =
+WritesWaiting old line out (Err fault) new grown =
     (new.want ≡ Nothing) × FailsToAdd out (line_bytes old line) (fault_value fault) grown
 
 -- keeping a line until it is decided
@@ -195,16 +195,16 @@ abbrev pub bytes_at_once : Masking → Waiting → List ℕ
 bytes_at_once moved line = cond (writes_at_once moved line.text) (line_bytes moved line) []
 
 -- taking a line: it is written, or waits
-abbrev pub TakesLine : {A : Type 0} → Masking → ℕ → Waiting → Output → Result A Fault → Masking
+abbrev pub TakesSequenceLine : {A : Type 0} → Masking → ℕ → Waiting → Output → Result A Fault → Masking
     → Output → Type 0
-TakesLine old number line out (Ok done) new grown =
+TakesSequenceLine old number line out (Ok done) new grown =
     (is_stray old line.text ≡ false)
     × (new ≡ record (moved_to old line.text) {
       waiting = cond (writes_at_once (moved_to old line.text) line.text) None (Some line);
       want = cond (writes_at_once (moved_to old line.text) line.text) Line Bed;
     })
     × Grown out (bytes_at_once (moved_to old line.text) line) grown
-TakesLine old number line out (Err fault) new grown =
+TakesSequenceLine old number line out (Err fault) new grown =
     (new.want ≡ Nothing)
     × (((fault_value fault ≡ fault_at_line First number TextBeforeHeader) × (is_stray old line.text ≡ true)
     × (grown ≡ out))
@@ -217,7 +217,7 @@ TakesLine old number line out (Err fault) new grown =
 -- after one, nothing is held, and the records have ended or the record ahead decides it.
 abbrev pub stays_as_given : Masking → List ℕ → Bool
 stays_as_given m text =
-    not (is_header text) && (is_some m.matched.name && (nat_eq (length m.window.held) 0
+    not (is_sequence_header text) && (is_some m.matched.name && (nat_eq (length m.window.held) 0
     && (m.bed_ended || nat_le (gone_on m.window (length text)).bases m.decided_to)))
 
 -- with such a line, once it is written
@@ -235,8 +235,8 @@ decides_by Earlier bases start = false
 decides_by Own bases start = nat_le bases start
 decides_by Nobody bases start = true
 
-abbrev pub decides : Masking → Feature → Bool
-decides m r = decides_by (owner_of m.matched r.chrom) m.window.bases r.start
+abbrev pub decides_line : Masking → Feature → Bool
+decides_line m r = decides_by (owner_of m.matched r.chrom) m.window.bases r.start
 
 -- up to which base of the sequence given last a record decides lines, if it decides one: up to
 -- its start, or all if its block belongs to nobody
@@ -267,9 +267,9 @@ holding m r =
 abbrev pub TakesBed : Masking → Waiting → Feature → Output → Result Taken Fault → Masking → Output
     → Type 0
 TakesBed old line r out (Ok Yes) new grown =
-    (decides old r ≡ false) × (new ≡ holding old r) × (grown ≡ out)
+    (decides_line old r ≡ false) × (new ≡ holding old r) × (grown ≡ out)
 TakesBed old line r out (Ok No) new grown =
-    (decides old r ≡ true)
+    (decides_line old r ≡ true)
     × (new ≡ record (with_owner old r.chrom) {
       waiting = None;
       want = Line;
@@ -278,8 +278,8 @@ TakesBed old line r out (Ok No) new grown =
     × Grown out (line_bytes old line) grown
 TakesBed old line r out (Err fault) new grown =
     (new.want ≡ Nothing)
-    × (((decides old r ≡ true) × FailsToAdd out (line_bytes old line) (fault_value fault) grown)
-    ⊎ ((decides old r ≡ false) × (holds old r ≡ true) × (fault_value fault ≡ no_memory) × (grown ≡ out)))
+    × (((decides_line old r ≡ true) × FailsToAdd out (line_bytes old line) (fault_value fault) grown)
+    ⊎ ((decides_line old r ≡ false) × (holds old r ≡ true) × (fault_value fault ≡ no_memory) × (grown ≡ out)))
 
 -- checking a record after the last line: its block belongs to a sequence
 abbrev pub ChecksBed : {A : Type 0} → Masking → Feature → ℕ → Result A Fault → Masking → Type 0

@@ -5,10 +5,10 @@ use Rattle.bt_bed.specs.model.Feature.{Feature}
 use Rattle.bt_bed.specs.model.BedLine.{fault_at_line}
 use Rattle.bt_bed.specs.calls.Orders.{AreInBlocks}
 use Rattle.bt_bed.specs.calls.Stage.{given}
-use Rattle.bt_seq.specs.calls.MaskStage.{extent_of, MaskStage, held_by, reached_by, want_at, is_written_at_once, reached, with_bed_ended, with_decided, with_line, with_record, LineBefore, GoesOn, PassesLines, IsNext, held_for}
+use Rattle.bt_seq.specs.calls.MaskStage.{extent_of, MaskStage, held_by, reached_by, want_at, is_written_at_once, reached, with_bed_ended, with_decided, with_line, with_record, LineBefore, GoesOn, PassesTextLines, MayComeNext, held_for_line}
 use Rattle.bt_seq.specs.calls.MaskState.{Masking, Waiting, left_after}
 use Rattle.bt_seq.specs.inside.Masking.{KnowsStage}
-use Rattle.bt_seq.specs.model.Masked.{decided, is_unnamed, SequenceLine, is_header, masked_line, line_says}
+use Rattle.bt_seq.specs.model.Masked.{line_decided, is_unnamed, SequenceLine, is_sequence_header, masked_line, line_says}
 use Rattle.bt_seq.specs.declared.mask.mask_how.MaskHow.{MaskHow}
 use Rattle.bt_lines.specs.model.Fault.{FaultValue}
 use Rattle.bt_lines.specs.calls.Faults.{no_memory}
@@ -33,7 +33,7 @@ use Rattle.bt_seq.specs.declared.mask.MaskWant.{MaskWant}
 -- or the last line isn't decided by them
 abbrev pub IsOpen : Option SequenceLine → List Feature → Type 0
 IsOpen None taken = taken ≡ []
-IsOpen (Some line) taken = (taken ≡ []) ⊎ (decided line taken ≡ false)
+IsOpen (Some line) taken = (taken ≡ []) ⊎ (line_decided line taken ≡ false)
 
 -- a line as it is kept
 abbrev pub kept_line : SequenceLine → Waiting
@@ -45,7 +45,7 @@ pub record Waits (stage : MaskStage) (line : SequenceLine) : Type 0 where
   pub bed : stage.inputs.second_ended ≡ false
   pub named : is_unnamed line.names ≡ false
   -- a header has no bases before it
-  pub header : is_header line.text ≡ true → line.before ≡ 0
+  pub header : is_sequence_header line.text ≡ true → line.before ≡ 0
 
 -- The engine is at the stage, if this line was given last: what waits, what is wanted and what is held are
 -- those of the stage.
@@ -87,13 +87,13 @@ bytes_with how stage line =
 -- into which a record reaches
 abbrev pub may_need_memory : MaskStage → SequenceLine → Bool
 may_need_memory stage line =
-    is_header line.text || (not (is_written_at_once stage line)
-    || nat_lt 0 (length (held_for line stage.inputs.taken)))
+    is_sequence_header line.text || (not (is_written_at_once stage line)
+    || nat_lt 0 (length (held_for_line line stage.inputs.taken)))
 
 -- if a record decides a line, it stays as it is, whatever follows in order
 abbrev pub IsSettled : MaskHow → MaskStage → SequenceLine → Type 0
 IsSettled how stage line =
-    (r : Feature) → decided line (stage.inputs.taken ++ r ∷ []) ≡ true → LineBefore how line stage.inputs.taken r
+    (r : Feature) → line_decided line (stage.inputs.taken ++ r ∷ []) ≡ true → LineBefore how line stage.inputs.taken r
 
 -- one more line of the FASTA input
 module _ (how : MaskHow) (full : Bool) (stage : MaskStage) (line : TextLine) (out : Output) where
@@ -132,34 +132,34 @@ module _ (how : MaskHow) (full : Bool) (stage : MaskStage) (line : TextLine) (ou
 module _ (how : MaskHow) (full : Bool) (stage : MaskStage) (line : SequenceLine) (r : Feature)
     (out : Output) where
   -- it leaves the line undecided, and is taken
-  pub record TakesRecord (new : Masking) (grown : Output) : Type 0 where
-    pub undecided : decided line (stage.inputs.taken ++ r ∷ []) ≡ false
+  pub record TakesUndecided (new : Masking) (grown : Output) : Type 0 where
+    pub undecided : line_decided line (stage.inputs.taken ++ r ∷ []) ≡ false
     pub stands : MaskMovesTo how full (with_record stage r) new
     pub same_output : grown ≡ out
 
   -- it decides the line, which is written as it stays, whatever follows in order
   pub record WritesLine (new : Masking) (grown : Output) : Type 0 where
-    pub decides : decided line (stage.inputs.taken ++ r ∷ []) ≡ true
+    pub decides : line_decided line (stage.inputs.taken ++ r ∷ []) ≡ true
     pub stands : MaskMovesTo how full (with_decided stage r) new
     pub puts : Grown out (masked_line how stage.inputs.taken line) grown
     pub settled : LineBefore how line stage.inputs.taken r
 
   -- it decides the line, which couldn't be written
   pub record FailsToWriteLine (fault : FaultValue) (grown : Output) : Type 0 where
-    pub decides : decided line (stage.inputs.taken ++ r ∷ []) ≡ true
+    pub decides : line_decided line (stage.inputs.taken ++ r ∷ []) ≡ true
     pub fails : FailsToAdd out (masked_line how stage.inputs.taken line) fault grown
     pub settled : LineBefore how line stage.inputs.taken r
 
   -- it leaves the line undecided and has to be held, for which there is no memory
   pub record FailsToHoldRecord (fault : FaultValue) (grown : Output) : Type 0 where
-    pub undecided : decided line (stage.inputs.taken ++ r ∷ []) ≡ false
-    pub to_hold : held_for line (stage.inputs.taken ++ r ∷ []) ≡ held_for line stage.inputs.taken ++ r ∷ []
+    pub undecided : line_decided line (stage.inputs.taken ++ r ∷ []) ≡ false
+    pub to_hold : held_for_line line (stage.inputs.taken ++ r ∷ []) ≡ held_for_line line stage.inputs.taken ++ r ∷ []
     pub is : fault ≡ no_memory
     pub same_output : grown ≡ out
 
   -- what the result says
   abbrev pub GivesBed : Result Taken Fault → Masking → Output → Type 0
-  GivesBed (Ok Yes) new grown = TakesRecord new grown
+  GivesBed (Ok Yes) new grown = TakesUndecided new grown
   GivesBed (Ok No) new grown = WritesLine new grown
   GivesBed (Err fault) new grown =
       (new.want ≡ Nothing) × (FailsToWriteLine (fault_value fault) grown
@@ -243,8 +243,8 @@ module _ (how : MaskHow) (full : Bool) where
 
 module _ {C R : Type 0} (cursor : Cursor C R) where
   -- whatever record comes next, it is the one ahead, if one is known to be
-  abbrev pub ComesNext : Option Feature → C → Type 0
-  ComesNext ahead records = (r : Feature) (later : C) → cursor.gives records (r ∷ []) later → IsNext ahead r
+  abbrev pub GivesAhead : Option Feature → C → Type 0
+  GivesAhead ahead records = (r : Feature) (later : C) → cursor.gives records (r ∷ []) later → MayComeNext ahead r
 
   -- the record ahead is the one that was, or it comes next after those that were taken
   abbrev pub ComesAfter : Option Feature → C → List Feature → Option Feature → Type 0
@@ -268,7 +268,7 @@ module _ {C R : Type 0} (cursor : Cursor C R) where
       pub mask : Masking
       pub through : Output
       pub comes : HasCome how full old before taken out mask through
-      pub next : ComesNext comes.stage.ahead records
+      pub next : GivesAhead comes.stage.ahead records
       pub after : ComesAfter old.ahead from taken comes.stage.ahead
       pub fails : ((want_at comes.stage ≡ Line)
           × FailsAtLines how full comes.stage failing through fault grown)
@@ -280,7 +280,7 @@ module _ {C R : Type 0} (cursor : Cursor C R) where
     abbrev pub BothCome : {A : Type 0} → Result A Fault → Masking → C → Output → Type 0
     BothCome (Ok done) new records grown =
         (comes : HasCome how full old lines taken out new grown)
-        × ComesNext comes.stage.ahead records × ComesAfter old.ahead from taken comes.stage.ahead
+        × GivesAhead comes.stage.ahead records × ComesAfter old.ahead from taken comes.stage.ahead
     BothCome (Err fault) new records grown =
         (new.want ≡ Nothing) × FailsAfter (fault_value fault) records grown
 
@@ -289,17 +289,17 @@ module _ {C R : Type 0} (cursor : Cursor C R) where
       (out : Output) (answer : Result A Fault) (new : Masking) (lines_left : BufferedLines)
       (records_left : C) (grown : Output) : Type 0 where
     pub texts : List TextLine
-    pub passes : PassesLines lines texts lines_left
+    pub passes : PassesTextLines lines texts lines_left
     pub taken : List Feature
     pub given : cursor.gives records taken records_left
     pub comes : (stage : MaskStage) → MaskStandsAt stage old
-        → ComesNext stage.ahead records
+        → GivesAhead stage.ahead records
         → BothCome old.how old.full stage texts taken out records answer new records_left grown
 
 -- nothing is taken and nothing is written
-abbrev pub Stays : {C : Type 0} → Masking → BufferedLines → C → Output → Masking → BufferedLines → C
+abbrev pub DoesNothing : {C : Type 0} → Masking → BufferedLines → C → Output → Masking → BufferedLines → C
     → Output → Type 0
-Stays old lines records out new lines_left records_left grown =
+DoesNothing old lines records out new lines_left records_left grown =
     (new ≡ old) × (lines_left ≡ lines) × (records_left ≡ records) × (grown ≡ out)
 
 -- how much may be given: it falls with each line and each record

@@ -4,9 +4,9 @@ use Rattle.std.specs.List.{AllByRecursion, last_or}
 use Rattle.std.specs.Option.{option_map_or}
 use Rattle.bt_bed.specs.model.Feature.{Feature}
 use Rattle.bt_lines.specs.model.Lines.{max_number, TextLine, spelled}
-use Rattle.bt_seq.specs.calls.MaskStage.{MaskStage, reached_by, want_at, PassesLines}
-use Rattle.bt_seq.specs.calls.MaskState.{Knows, KnowsEarlier, Matched, Masking, passed, stays_as_given, goes_on, left_after}
-use Rattle.bt_seq.specs.model.Masked.{decided, is_unnamed, names_behind, SequenceLine, is_header}
+use Rattle.bt_seq.specs.calls.MaskStage.{MaskStage, reached_by, want_at, PassesTextLines}
+use Rattle.bt_seq.specs.calls.MaskState.{Knows, KnowsEarlier, Matched, Masking, passed, stays_as_given, goes_on_block, left_after}
+use Rattle.bt_seq.specs.model.Masked.{line_decided, is_unnamed, names_behind, SequenceLine, is_sequence_header}
 use Rattle.bt_seq.specs.inside.Window.{Bounds, limit, gone_on}
 use Rattle.bt_seq.specs.declared.mask.MaskWant.TheVariants.{Line, Nothing, Bed}
 use Rattle.bt_lines.specs.calls.Reader.{PassesLine, rest_in}
@@ -25,7 +25,7 @@ use Rattle.bt_seq.specs.declared.mask.phase.Phase.TheVariants.{Lines, Waits, Che
 -- the last line is decided by these records, if there is one
 abbrev pub IsDecided : Option SequenceLine → List Feature → Type 0
 IsDecided None records = ⊤
-IsDecided (Some line) records = decided line records ≡ true
+IsDecided (Some line) records = line_decided line records ≡ true
 
 -- the bases before the line and up to its end are counted as far as records reach
 pub record Counts (last : Option SequenceLine) (window : Bounds) : Type 0 where
@@ -49,7 +49,7 @@ module _ (names : List (List ℕ)) (taken : List Feature) (m : Matched) where
 pub record KnowsAhead (names : List (List ℕ)) (taken : List Feature) (r : Feature)
     (m : Matched) : Type 0 where
   pub knows : Knows names taken m
-  pub begins : goes_on taken r ≡ false
+  pub begins : goes_on_block taken r ≡ false
   pub none : (e : KnowsEarlier names taken m) → names_behind r.chrom e.before ≡ None
 
 -- What is known of the sequences and the blocks of records, if one may be ahead. If no line
@@ -103,7 +103,7 @@ pub record CopiesLine (to : ℕ) (old : CopyThrough) (line : TextLine) (new : Co
   pub passes : PassesLine old.lines line new.lines
   pub bytes_are : rest_in old.lines ≡ spelled line ++ rest_in new.lines
   pub at : new.lines.at ≡ old.lines.at + length (spelled line)
-  pub no_header : is_header line.text ≡ false
+  pub no_header : is_sequence_header line.text ≡ false
   pub counts : bounds_of new ≡ gone_on (bounds_of old) (length line.text)
   pub within : new.bases ≤ to
 
@@ -136,18 +136,18 @@ WritesAll old lines out (Err fault) new grown =
 pub record CopiesThrough {A : Type 0} (old : Masking) (lines : BufferedLines) (out : Output)
     (answer : Result A Fault) (new : Masking) (left : BufferedLines) (grown : Output) : Type 0 where
   pub texts : List TextLine
-  pub passes : PassesLines lines texts left
+  pub passes : PassesTextLines lines texts left
   pub stay : StayEach old texts
   pub writes : WritesAll old texts out answer new grown
 
 -- How far a masking engine has come.
 
 -- what is wanted
-abbrev pub want_in : Phase → MaskWant
-want_in Lines = Line
-want_in Waits = Bed
-want_in Checks = Bed
-want_in Ended = Nothing
+abbrev pub mask_want_in : Phase → MaskWant
+mask_want_in Lines = Line
+mask_want_in Waits = Bed
+mask_want_in Checks = Bed
+mask_want_in Ended = Nothing
 
 -- whether a line waits
 abbrev pub waits_in : Phase → Bool

@@ -13,15 +13,15 @@ none_left [] = Some []
 none_left (byte ∷ bytes) = None
 
 -- the first operation of a text, and the text after it
-abbrev pub IsFirst : List ℕ → Option (Operation × Bor (List ℕ)) → Type 0
-IsFirst text None = operations_in text ≡ none_left text
-IsFirst text (Some first) =
+abbrev pub IsFirstOperation : List ℕ → Option (Operation × Bor (List ℕ)) → Type 0
+IsFirstOperation text None = operations_in text ≡ none_left text
+IsFirstOperation text (Some first) =
     operations_in text ≡ with_operation (Some first.0) (operations_in first.1.now)
 
 -- the text after the first operation is shorter, and the operation's length is a number
-abbrev pub IsWithin : List ℕ → Option (Operation × Bor (List ℕ)) → Type 0
-IsWithin text None = ⊤
-IsWithin text (Some first) = (length first.1.now < length text) × (first.0.length ≤ max_number)
+abbrev pub LeavesShorter : List ℕ → Option (Operation × Bor (List ℕ)) → Type 0
+LeavesShorter text None = ⊤
+LeavesShorter text (Some first) = (length first.1.now < length text) × (first.0.length ≤ max_number)
 
 -- whether there are operations that from a place of the reference on end within the greatest number
 abbrev pub fit_behind : ℕ → Option (List Operation) → Bool

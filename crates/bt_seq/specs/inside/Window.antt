@@ -29,12 +29,12 @@ gone_on w count = record {
 }
 
 -- whether an extent has a position
-abbrev pub has_position : ℕ → Extent → Bool
-has_position position s = nat_le s.start position && nat_lt position s.stop
+abbrev pub extent_has : ℕ → Extent → Bool
+extent_has position s = nat_le s.start position && nat_lt position s.stop
 
 -- bases from this position on, of which those that an extent covers are replaced
 abbrev pub masked_in : MaskHow → List Extent → ℕ → List ℕ → List ℕ
 masked_in how extents position [] = []
 masked_in how extents position (base ∷ bases) =
-    (if list_any (has_position position) extents then masked_byte how base else base)
+    (if list_any (extent_has position) extents then masked_byte how base else base)
     ∷ masked_in how extents (suc position) bases

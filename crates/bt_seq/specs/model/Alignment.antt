@@ -81,8 +81,8 @@ operations_of (byte ∷ bytes) =
     if bytes_eq (byte ∷ bytes) (codes "*") then Some [] else operations_in (byte ∷ bytes)
 
 -- the reference length of a CIGAR, if it is well formed
-abbrev pub length_of : List ℕ → Option ℕ
-length_of cigar = option_map reference_length (operations_of cigar)
+abbrev pub cigar_length : List ℕ → Option ℕ
+cigar_length cigar = option_map reference_length (operations_of cigar)
 
 -- What a line of a SAM file says: nothing, an alignment, or what is wrong with it (Sequence
 -- Alignment/Map Format Specification, section 1.3 for header lines, 1.4 for the mandatory fields).
@@ -168,32 +168,32 @@ values_say fields flag position quality span =
 
 -- the first of the columns that is at fault, or what their values say: flag, reference name,
 -- position, mapping quality, and the reference length of the CIGAR
-abbrev pub columns_say : Fields → Option ℕ → List ℕ → Option ℕ → Option ℕ → Option ℕ
+abbrev pub sam_columns_say : Fields → Option ℕ → List ℕ → Option ℕ → Option ℕ → Option ℕ
     → Result (Option Alignment) Kind
-columns_say fields None chrom position quality span = Err BadFlag
-columns_say fields (Some flag) [] position quality span = Err EmptyName
-columns_say fields (Some flag) (byte ∷ bytes) None quality span = Err BadPosition
-columns_say fields (Some flag) (byte ∷ bytes) (Some position) None span = Err BadQuality
-columns_say fields (Some flag) (byte ∷ bytes) (Some position) (Some quality) None = Err BadCigar
-columns_say fields (Some flag) (byte ∷ bytes) (Some position) (Some quality) (Some span) =
+sam_columns_say fields None chrom position quality span = Err BadFlag
+sam_columns_say fields (Some flag) [] position quality span = Err EmptyName
+sam_columns_say fields (Some flag) (byte ∷ bytes) None quality span = Err BadPosition
+sam_columns_say fields (Some flag) (byte ∷ bytes) (Some position) None span = Err BadQuality
+sam_columns_say fields (Some flag) (byte ∷ bytes) (Some position) (Some quality) None = Err BadCigar
+sam_columns_say fields (Some flag) (byte ∷ bytes) (Some position) (Some quality) (Some span) =
     values_say fields flag position quality span
 
 -- what the columns say, if there are enough of them; FLAG, POS and MAPQ have these limits
 unfoldable pub fields_say : Option Fields → Result (Option Alignment) Kind
 fields_say None = Err TooFewColumns
 fields_say (Some fields) =
-    columns_say fields (value_up_to 65535 fields.flag) fields.chrom
+    sam_columns_say fields (value_up_to 65535 fields.flag) fields.chrom
     (value_up_to 2147483647 fields.position) (value_up_to 255 fields.quality)
-    (length_of fields.cigar)
+    (cigar_length fields.cigar)
 
 -- whether a line says nothing: it is blank, or a header line, which begins with `@`
-abbrev pub is_skipped : List ℕ → Bool
-is_skipped [] = true
-is_skipped (byte ∷ bytes) = byte == 64
+abbrev pub is_skipped_sam : List ℕ → Bool
+is_skipped_sam [] = true
+is_skipped_sam (byte ∷ bytes) = byte == 64
 
 -- what a line's text says
 unfoldable pub alignment_of : List ℕ → Result (Option Alignment) Kind
-alignment_of text = if is_skipped text then Ok None else fields_say (fields_of (pieces 9 text))
+alignment_of text = if is_skipped_sam text then Ok None else fields_say (fields_of (pieces 9 text))
 
 -- The blocks of an alignment, one for each maximal list of its operations without N. An N is a
 -- region of the reference that the read skips (Sequence Alignment/Map Format Specification, section
@@ -204,12 +204,12 @@ abbrev pub is_skip : Operation → Bool
 is_skip operation = operation.letter == 78
 
 -- a place among operations: those before it, and those from it on
-pub record Cut : Type 0 where
+pub record CigarPlace : Type 0 where
   pub before : List Operation
   pub behind : List Operation
 
 -- all places among operations, with these before the first of them
-abbrev pub cuts : List Operation → List Operation → List Cut
+abbrev pub cuts : List Operation → List Operation → List CigarPlace
 cuts before [] = record { before = before; behind = [] } ∷ []
 cuts before (operation ∷ operations) =
     record { before = before; behind = operation ∷ operations }
@@ -231,7 +231,7 @@ with_bases start stop = if nat_lt start stop then record { start = start; stop =
 
 -- The block that begins at a place, if one does and it has a base. It lies after the reference
 -- bases of all operations before it, and goes on up to the next N.
-abbrev pub block_at : ℕ → Cut → List Span
+abbrev pub block_at : ℕ → CigarPlace → List Span
 block_at start cut =
     if begins_block cut.before
     then with_bases (start + reference_length cut.before)

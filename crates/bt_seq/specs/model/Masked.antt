@@ -97,9 +97,9 @@ pub record SequenceLine : Type 0 where
   pub ending : LineEnd
 
 -- whether a text is a header
-abbrev pub is_header : List ℕ → Bool
-is_header [] = false
-is_header (byte ∷ bytes) = byte == 62
+abbrev pub is_sequence_header : List ℕ → Bool
+is_sequence_header [] = false
+is_sequence_header (byte ∷ bytes) = byte == 62
 
 -- whether a byte ends a name: a space or a tab
 abbrev pub ends_name : ℕ → Bool
@@ -113,7 +113,7 @@ name_in full text =
 
 -- how many bases a text holds
 abbrev pub bases_in : List ℕ → ℕ
-bases_in text = if is_header text then 0 else length text
+bases_in text = if is_sequence_header text then 0 else length text
 
 -- how many bases of its sequence come before the end of a line
 abbrev pub bases_up_to : SequenceLine → ℕ
@@ -150,7 +150,7 @@ may_stand (name ∷ names) text = true
 -- what a line says after those before it
 abbrev pub line_says : Bool → Reached → TextLine → Result (Option SequenceLine) Kind
 line_says full reached line =
-    if is_header line.text then Ok (Some (header_behind full reached line))
+    if is_sequence_header line.text then Ok (Some (header_behind full reached line))
     else (if may_stand reached.names line.text then Ok (Some (line_behind reached line))
     else Err TextBeforeHeader)
 
@@ -175,20 +175,20 @@ masked_byte Soft byte = if is_ascii_uppercase byte then byte + 32 else byte
 masked_byte (Hard mask) byte = mask
 
 -- whether a record covers a position
-abbrev pub covers : ℕ → Feature → Bool
-covers position r = nat_le r.start position && nat_lt position r.stop
+abbrev pub record_covers : ℕ → Feature → Bool
+record_covers position r = nat_le r.start position && nat_lt position r.stop
 
 -- bases from this position on, of which those that a record covers are replaced
 abbrev pub masked_from : MaskHow → List Feature → ℕ → List ℕ → List ℕ
 masked_from how records position [] = []
 masked_from how records position (base ∷ bases) =
-    (if list_any (covers position) records then masked_byte how base else base)
+    (if list_any (record_covers position) records then masked_byte how base else base)
     ∷ masked_from how records (suc position) bases
 
 -- the text of a line against all records: a header stays
 abbrev pub masked_text : MaskHow → List Feature → SequenceLine → List ℕ
 masked_text how records line =
-    if is_header line.text then line.text
+    if is_sequence_header line.text then line.text
     else masked_from how (own_records line.names records) line.before line.text
 
 -- the line with its line end, which stays as it was
@@ -201,15 +201,15 @@ is_unnamed [] = true
 is_unnamed (name ∷ names) = false
 
 -- whether these records decide a line: nothing that follows them in order changes it
-abbrev pub decided : SequenceLine → List Feature → Bool
-decided line records =
+abbrev pub line_decided : SequenceLine → List Feature → Bool
+line_decided line records =
     is_unnamed line.names
     || list_any (λ o. block_decides (bases_up_to line) o.left o.block.items)
     (owned line.names records)
 
 -- the names of all sequences that have a line among these
-abbrev pub names_of : List SequenceLine → List (List ℕ)
-names_of lines = option_map_or (λ line. line.names) (last_or None lines) []
+abbrev pub names_of_sequences : List SequenceLine → List (List ℕ)
+names_of_sequences lines = option_map_or (λ line. line.names) (last_or None lines) []
 
 -- that there is no sequence for these records, reported at the first of them
 abbrev pub told_at_first : List (Member Feature) → Option FaultValue
@@ -226,7 +226,7 @@ no_sequence names members =
 -- end its first block without a sequence is reported, before its fault.
 abbrev pub mask_rule : MaskHow → List (List ℕ) → Good Feature → Rule SequenceLine ℕ FaultValue
 mask_rule how names second = record {
-  decided = λ line. is_none second.fault || decided line (items_in second);
+  line_decided = λ line. is_none second.fault || line_decided line (items_in second);
   lines = masked_line how (items_in second);
   fault = second.fault;
   last = or_else (no_sequence names second.members) second.fault;
@@ -235,4 +235,4 @@ mask_rule how names second = record {
 -- the bytes that maskfasta writes of two inputs, and the fault that it tells
 abbrev pub mask_met : MaskHow → Good SequenceLine → Good Feature → Met ℕ FaultValue
 mask_met how first second =
-    join_report (mask_rule how (names_of (items_in first)) second) (items_in first) first.fault
+    join_report (mask_rule how (names_of_sequences (items_in first)) second) (items_in first) first.fault

@@ -2,7 +2,7 @@
 
 ghost use Rattle.std.specs.Prelude.{◌≡◌, ◌≤◌, ◌&&◌, nat_le, not};
 ghost use Rattle.bt_seq.specs.inside.Window.{limit};
-ghost use Rattle.bt_seq.specs.model.Masked.{is_header};
+ghost use Rattle.bt_seq.specs.model.Masked.{is_sequence_header};
 
 use crate::mask::header_name::is_header;
 use crate::mask::window::up_to_limit;
@@ -62,7 +62,7 @@ impl<'a> CopyThrough<'a> {
 // are. A header never is: its name may be that of the next record.
 #[inline(always)]
 pub(crate) fn is_decided_to(text: &[u8], bases: u64, to: u64) -> bool
-    ensures { result ≡ (not (is_header text.now) && nat_le bases to) }
+    ensures { result ≡ (not (is_sequence_header text.now) && nat_le bases to) }
 {
     !is_header(text) && bases <= to
 }

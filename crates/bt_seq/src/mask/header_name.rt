@@ -2,20 +2,20 @@
 
 ghost use Rattle.std.specs.Prelude.{◌≡◌, ◌≤◌, length, not, take, true};
 ghost use Rattle.std.specs.List.{take_while};
-ghost use Rattle.bt_seq.specs.model.Masked.{ends_name, is_header, name_in};
+ghost use Rattle.bt_seq.specs.model.Masked.{ends_name, is_sequence_header, name_in};
 
 use bt_lines::length_before;
 
 // Whether a line is a header.
 pub(crate) fn is_header(text: &[u8]) -> bool
-    ensures { result ≡ is_header text.now }
+    ensures { result ≡ is_sequence_header text.now }
 {
     matches!(text, [b'>', ..])
 }
 
 // The name that a header gives: up to the first space or tab, or whole.
 pub(crate) fn name_in(full: bool, text: &[u8]) -> &[u8]
-    requires { is_header text.now ≡ true }
+    requires { is_sequence_header text.now ≡ true }
     ensures { result.now ≡ name_in full text.now }
 {
     let name = &text[1..];

@@ -9,7 +9,7 @@ ghost use Rattle.bt_bed.specs.model.BedLine.{fault_at_line};
 ghost use Rattle.bt_lines.specs.calls.Reader.{lines_in};
 ghost use Rattle.bt_seq.specs.inside.Masking.{CopiesThrough};
 ghost use Rattle.bt_seq.specs.calls.MaskSteps.{GivesBoth};
-ghost use Rattle.bt_seq.specs.calls.MaskState.{ChecksBed, Keeps, Moves, TakesBed, TakesLine, Waiting, Writes, WritesGiven, decides_by, decides_up_to, with_extent, writes_at_once};
+ghost use Rattle.bt_seq.specs.calls.MaskState.{ChecksBed, Keeps, Moves, TakesBed, TakesSequenceLine, Waiting, WritesWaiting, WritesGiven, decides_by, decides_up_to, with_extent, writes_at_once};
 ghost use Rattle.bt_seq.specs.inside.Window.{limit, no_bases};
 
 use crate::mask::MaskWant;
@@ -54,7 +54,7 @@ pub(crate) struct MaskState {
 impl Model for MaskState {
     ghost use Rattle.std.specs.Prelude.{None, Some, if◌then◌else◌};
     ghost use Rattle.bt_seq.specs.calls.MaskState.{Masking};
-    ghost use Rattle.bt_seq.specs.inside.Masking.{waits_in, want_in};
+    ghost use Rattle.bt_seq.specs.inside.Masking.{waits_in, mask_want_in};
 
     ghost Value = { Masking };
 
@@ -64,7 +64,7 @@ impl Model for MaskState {
       matched = m.matching;
       window = m.window;
       waiting = if waits_in m.phase then Some (record { text = m.text.items; ending = m.ending }) else None;
-      want = want_in m.phase;
+      want = mask_want_in m.phase;
       bed_ended = m.bed_ended;
       decided_to = m.decided_to;
     } };
@@ -137,7 +137,7 @@ impl MaskState {
         line: &Line<'_>,
         out: &mut Out<K>,
     ) -> Result<(), Fault>
-        ensures { TakesLine self.old line.now.number
+        ensures { TakesSequenceLine self.old line.now.number
             (record { text = line.now.text.now; ending = line.now.ending }) out.old.output result self.new out.new.output }
     {
         if let Err(fault) = self.move_to(line.number, line.text) {
@@ -228,7 +228,7 @@ impl MaskState {
     // Takes the end of the records, and writes the line that waits.
     pub(crate) fn end_bed<K: Sink>(&mut self, out: &mut Out<K>) -> Result<(), Fault>
         ensures waits { (line : Waiting) → self.old.waiting ≡ Some line
-            → Writes (record self.old { bed_ended = true }) line out.old.output result self.new out.new.output }
+            → WritesWaiting (record self.old { bed_ended = true }) line out.old.output result self.new out.new.output }
         ensures none_waits { self.old.waiting ≡ None → IsOk result
             × (self.new ≡ record self.old { bed_ended = true; want = MaskWant.Nothing })
             × (out.new.output ≡ out.old.output) }
@@ -369,7 +369,7 @@ impl MaskState {
     // Writes the line that waits.
     fn write<K: Sink>(&mut self, out: &mut Out<K>) -> Result<(), Fault>
         ensures writes { (line : Waiting) → self.old.waiting ≡ Some line
-            → Writes self.old line out.old.output result self.new out.new.output }
+            → WritesWaiting self.old line out.old.output result self.new out.new.output }
         ensures stops { OnErr result (self.new.want ≡ MaskWant.Nothing) }
         ensures goes_on { OnOk result (self.new.want ≡ MaskWant.Line) }
     {

@@ -7,7 +7,8 @@ pub(crate) mod mask_how;
 pub(crate) mod mask_state;
 pub(crate) mod matching;
 pub(crate) mod phase;
-pub(crate) mod plain;
+#[cfg(test)]
+mod plain;
 pub(crate) mod put_text;
 pub(crate) mod window;
 
@@ -18,8 +19,8 @@ ghost use Rattle.bt_bed.specs.calls.Orders.{AreInBlocks};
 ghost use Rattle.bt_lines.specs.calls.Line.{line_seen};
 ghost use Rattle.bt_lines.specs.declared.reader.buffered_lines.BufferedLines.{BufferedLines};
 ghost use Rattle.bt_bed.specs.calls.Stage.{given};
-ghost use Rattle.bt_seq.specs.calls.MaskStage.{IsNext, MaskStage, first_stage, held_by, want_at, with_lines_ended};
-ghost use Rattle.bt_seq.specs.calls.MaskSteps.{MaskMovesTo, MaskStandsAt, GivesBoth, Stays, StopsAt, left_to_give, ChecksRecord, EndsCheck, EndsRecords, GivesNextLine, GivesBed};
+ghost use Rattle.bt_seq.specs.calls.MaskStage.{MayComeNext, MaskStage, first_stage, held_by, want_at, with_lines_ended};
+ghost use Rattle.bt_seq.specs.calls.MaskSteps.{MaskMovesTo, MaskStandsAt, GivesBoth, DoesNothing, StopsAt, left_to_give, ChecksRecord, EndsCheck, EndsRecords, GivesNextLine, GivesBed};
 ghost use Rattle.bt_seq.specs.model.Masked.{SequenceLine};
 
 use crate::mask::mask_how::MaskHow;
@@ -119,7 +120,7 @@ impl Mask {
         ensures gives { GivesBoth C.Cursor self.old lines.old records.old out.old.output result
             self.new lines.new records.new out.new.output }
         ensures stops { OnOk result (StopsAt C.Cursor self.new.want lines.new records.new) }
-        ensures idle { self.old.want ≡ MaskWant.Nothing → (result ≡ Ok tt) × Stays self.old lines.old records.old out.old.output
+        ensures idle { self.old.want ≡ MaskWant.Nothing → (result ≡ Ok tt) × DoesNothing self.old lines.old records.old out.old.output
             self.new lines.new records.new out.new.output }
     {
         while self.gives_next(lines, records, out)? {}
@@ -140,7 +141,7 @@ impl Mask {
         ensures stops { result ≡ Ok false → StopsAt C.Cursor self.new.want lines.new records.new }
         ensures shrinks { result ≡ Ok true → left_to_give C.Cursor self.new lines.new records.new
             < left_to_give C.Cursor self.old lines.old records.old }
-        ensures idle { self.old.want ≡ MaskWant.Nothing → (result ≡ Ok false) × Stays self.old lines.old records.old out.old.output
+        ensures idle { self.old.want ≡ MaskWant.Nothing → (result ≡ Ok false) × DoesNothing self.old lines.old records.old out.old.output
             self.new lines.new records.new out.new.output }
     {
         match self.want() {
@@ -203,11 +204,11 @@ impl Mask {
         requires { self.old.want ≡ MaskWant.Bed }
         ensures waits { (stage : MaskStage) (waiting : SequenceLine)
             → MaskStandsAt stage self.old → stage.inputs.waiting ≡ Some waiting
-            → IsNext stage.ahead (feature_lent bed.now)
+            → MayComeNext stage.ahead (feature_lent bed.now)
             → GivesBed self.old.how self.old.full stage waiting (feature_lent bed.now) out.old.output result self.new out.new.output }
         ensures none_waits { (stage : MaskStage)
             → MaskStandsAt stage self.old → stage.inputs.waiting ≡ None
-            → IsNext stage.ahead (feature_lent bed.now)
+            → MayComeNext stage.ahead (feature_lent bed.now)
             → ChecksRecord self.old.how self.old.full stage (feature_lent bed.now) line out.old.output result self.new out.new.output }
         ensures stops { OnErr result (self.new.want ≡ MaskWant.Nothing) }
         ensures leaves { result ≡ Ok Taken.No → self.new.want ≡ MaskWant.Line }

@@ -17,11 +17,11 @@ pub(crate) enum Phase {
 
 impl Phase {
     ghost use Rattle.std.specs.Prelude.{◌≡◌};
-    ghost use Rattle.bt_seq.specs.inside.Masking.{waits_in, want_in};
+    ghost use Rattle.bt_seq.specs.inside.Masking.{waits_in, mask_want_in};
 
     // What is wanted.
     pub(crate) fn want(self) -> MaskWant
-        ensures { result ≡ want_in self }
+        ensures { result ≡ mask_want_in self }
     {
         match self {
             Phase::Lines => MaskWant::Line,

@@ -3,7 +3,7 @@
 
 ghost use Rattle.std.specs.Prelude.{◌≡◌, ◌+◌, ◌<◌, ◌^◌, ◌∷◌, [], IfOk, length};
 ghost use Rattle.std.specs.List.{list_any};
-ghost use Rattle.bt_seq.specs.model.Masked.{covers, masked_from};
+ghost use Rattle.bt_seq.specs.model.Masked.{record_covers, masked_from};
 
 use crate::mask::mask_how::{MaskHow, mask_byte};
 use bt_bed::Rec;
@@ -41,7 +41,7 @@ fn plain_base(how: MaskHow, records: &[Rec], position: u64, base: u8) -> u8
 }
 
 fn is_covered(records: &[Rec], position: u64) -> bool
-    ensures { result ≡ list_any (covers position) records.now }
+    ensures { result ≡ list_any (record_covers position) records.now }
 {
     records.iter().any(|rec| rec.as_bed().start <= position && position < rec.as_bed().stop)
 }

@@ -3,7 +3,7 @@
 ghost use Rattle.std.specs.Prelude.{◌≡◌, IfSome, Some, min, option_map};
 ghost use Rattle.bt_seq.specs.model.Alignment.{consumes_reference, covered_by, is_letter, operations_in, operations_of};
 ghost use Rattle.bt_seq.specs.calls.Alignments.{span_with};
-ghost use Rattle.bt_seq.specs.inside.Sam.{IsFirst, IsWithin};
+ghost use Rattle.bt_seq.specs.inside.Sam.{IsFirstOperation, LeavesShorter};
 
 use crate::sam::sam_text::number_in;
 use bt_lines::MAX_NUMBER;
@@ -85,8 +85,8 @@ fn operations_span(text: &[u8]) -> Option<u64>
 // doesn't begin with an operation.
 #[tactic(auto, using(bt_lines::proofs::lemmas::numbers::NumberLemmas::digits_more, bt_lines::proofs::lemmas::numbers::NumberLemmas::value_more, crate::proofs::lemmas::Sam::digits_alone, crate::proofs::lemmas::Sam::no_operation_at_all, crate::proofs::lemmas::Sam::other_byte))]
 pub(crate) fn first_operation(text: &[u8]) -> Option<(Operation, &[u8])>
-    ensures first { IsFirst text.now result }
-    ensures within { IsWithin text.now result }
+    ensures first { IsFirstOperation text.now result }
+    ensures within { LeavesShorter text.now result }
 {
     let mut length: u64 = 0;
     let mut end = 0;

@@ -2,7 +2,7 @@
 
 ghost use Rattle.std.specs.Prelude.{◌≡◌, ◌≤◌, ◌∷◌, [], Some, length, take};
 ghost use Rattle.bt_lines.specs.model.Lines.{value_of};
-ghost use Rattle.bt_seq.specs.model.Alignment.{alignment_of, fields_say, gives_nothing, has_bit, is_skipped, up_to, value_up_to};
+ghost use Rattle.bt_seq.specs.model.Alignment.{alignment_of, fields_say, gives_nothing, has_bit, is_skipped_sam, up_to, value_up_to};
 ghost use Rattle.bt_seq.specs.calls.Sam.{alignment_seen, fields_lent};
 
 use crate::sam::SamRef;
@@ -49,7 +49,7 @@ pub fn sam_line(text: &[u8]) -> Result<Option<SamRef<'_>>, Kind>
 
 // Whether a line is blank or a header line.
 fn is_skipped(text: &[u8]) -> bool
-    ensures { result ≡ is_skipped text.now }
+    ensures { result ≡ is_skipped_sam text.now }
 {
     matches!(text, [] | [b'@', ..])
 }

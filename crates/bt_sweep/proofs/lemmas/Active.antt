@@ -1,7 +1,7 @@
 -- Lemmas on held records.
 use Rattle.bt_lines.proofs.Std.{◌≡◌, Bool, true, ◌&&◌, cond, List, [], ◌∷◌, refl, filter, arith, ℕ, ◌<◌, false, None, Some, sym, ap, ◌∙◌, subst, rules, length, nat_eq, nat_lt, IsSome, BTreeMap, get, nat_cmp, eq-eqb, eqb-true, lt-ltb, length-filter, ◌+◌, ◌-◌, ◌≤◌, ◌++◌, zero, suc, add-one, append_assoc, drop, length-append, nat_le, option_to_list, slice_index_or, take, or-false, le-ltb, leb-false, ltb-false, ltb-true, or_parts, All, AllByRecursion, list_any, slice_get, IsNonDecreasingBy, IsPartitionPoint, get_or-drop, get_or_default, length-drop, take-append-drop, All-filter, filter-append, recursion_from_All, IsNonDecreasingBy-filter, IsNonDecreasingBy-push}
 use Rattle.bt_bed.specs.model.Feature.{Feature}
-use Rattle.bt_sweep.specs.inside.Held.{CountsEnds, ending_at, if_some}
+use Rattle.bt_sweep.specs.inside.Held.{CountsEnds, count_ending_at, if_some}
 use Rattle.bt_sweep.specs.calls.Held.{HaveBases}
 
 -- Lemmas on filters of lists.
@@ -31,7 +31,7 @@ module _ {X : Type 0} (p q r : X → Bool) where
 abbrev ends_at : ℕ → Feature → Bool
 ends_at stop r = nat_eq r.stop stop
 
-as_length : (stop : ℕ) (xs : List Feature) → ending_at stop xs ≡ length (filter (ends_at stop) xs)
+as_length : (stop : ℕ) (xs : List Feature) → count_ending_at stop xs ≡ length (filter (ends_at stop) xs)
 as_length stop xs = sym (length-filter (ends_at stop) xs)
 
 some_of : (n : ℕ) → 0 < n → IsSome (if_some n)
@@ -51,18 +51,18 @@ module _ (place : ℕ) where
 
   -- if each end that is counted lies after the place, no record has ended there
   pub none_ended : (ends : BTreeMap ℕ ℕ) (xs : List Feature) → CountsEnds ends xs → ((stop : ℕ) → IsSome (get nat_cmp ends stop) → place < stop) → xs ≡ filter stays xs
-  none_ended ends xs counts behind = grind (arith, (stay_rec xs (λ stop some. behind stop (subst IsSome (sym (counts stop)) (some_of (ending_at stop xs) (omega (arith, some, as_length stop xs)))))))
+  none_ended ends xs counts behind = grind (arith, (stay_rec xs (λ stop some. behind stop (subst IsSome (sym (counts stop)) (some_of (count_ending_at stop xs) (omega (arith, some, as_length stop xs)))))))
 
   module _ (stop : ℕ) (xs : List Feature) where
     stop_stays : nat_lt place stop ≡ true → (x : Feature) → ends_at stop x ≡ true → stays x ≡ true
     stop_stays h x e = ap (nat_lt place) (eqb-true x.stop stop e) ∙ h
 
-    kept_by : (c : Bool) → nat_lt place stop ≡ c → if_some (ending_at stop (filter stays xs)) ≡ cond c (if_some (ending_at stop xs)) None
+    kept_by : (c : Bool) → nat_lt place stop ≡ c → if_some (count_ending_at stop (filter stays xs)) ≡ cond c (if_some (count_ending_at stop xs)) None
     kept_by true h = grind (arith, (as_length stop (filter stays xs)), (filter-wider (ends_at stop) stays (stop_stays h) xs), (as_length stop xs))
     kept_by false h = grind (arith, (as_length stop (filter stays xs)), (filter-both (λ r. false) stays (ends_at stop) (λ x. grind arith) xs), (none_pass xs))
 
     -- of the records that haven't ended at the place as many end anywhere after it, and none elsewhere
-    pub kept_ends : if_some (ending_at stop (filter stays xs)) ≡ cond (nat_lt place stop) (if_some (ending_at stop xs)) None
+    pub kept_ends : if_some (count_ending_at stop (filter stays xs)) ≡ cond (nat_lt place stop) (if_some (count_ending_at stop xs)) None
     kept_ends = kept_by (nat_lt place stop) refl
 
 -- Lemmas on a queue of held records.

@@ -58,13 +58,13 @@ want_of true done = WantB
 want_of false true = Nothing
 want_of false false = WantA
 
-abbrev pub is_over : Phase → Bool
-is_over Both = false
-is_over SecondEnded = false
-is_over Over = true
+abbrev pub phase_is_over : Phase → Bool
+phase_is_over Both = false
+phase_is_over SecondEnded = false
+phase_is_over Over = true
 
 abbrev pub want_in : Sweeping → Want
-want_in sweep = want_of (is_some sweep.current) (is_over sweep.phase)
+want_in sweep = want_of (is_some sweep.current) (phase_is_over sweep.phase)
 
 -- After which records of both inputs a sweep is.
 

@@ -10,8 +10,8 @@ use Rattle.bt_sweep.specs.declared.active.held_list.HeldList.{HeldList}
 -- How many held records have each end.
 
 -- how many of these records end there
-abbrev pub ending_at : ℕ → List Feature → ℕ
-ending_at stop held = count_by (λ r. nat_eq r.stop stop) held
+abbrev pub count_ending_at : ℕ → List Feature → ℕ
+count_ending_at stop held = count_by (λ r. nat_eq r.stop stop) held
 
 -- a number above 0, and nothing instead of 0
 abbrev pub if_some : ℕ → Option ℕ
@@ -19,7 +19,7 @@ if_some n = cond (nat_lt 0 n) (Some n) None
 
 -- the map has exactly the ends of these records, and with each of them how many end there
 abbrev pub CountsEnds : BTreeMap ℕ ℕ → List Feature → Type 0
-CountsEnds ends held = (stop : ℕ) → get nat_cmp ends stop ≡ if_some (ending_at stop held)
+CountsEnds ends held = (stop : ℕ) → get nat_cmp ends stop ≡ if_some (count_ending_at stop held)
 
 -- Room in a list of held records.
 

@@ -30,14 +30,14 @@ use Rattle.bt_sweep.specs.declared.sweep.relation.Relation.TheVariants.{Unknown,
 -- What runs of steps over records of both inputs come to. Callers know them by `AdvancesOn`.
 
 -- the sweep holds what it has to once these records of both inputs were given and taken
-pub record Holds (order : Order) (as_given taken : List Feature) (sweep : Sweeping) : Type 0 where
+pub record HoldsDue (order : Order) (as_given taken : List Feature) (sweep : Sweeping) : Type 0 where
   pub holds : HoldsFor order as_given taken sweep.held
   pub within : IfSome sweep.limit (λ most. length sweep.held ≤ most)
 
 -- it holds what it has to, and goes by the rules that it went by
-pub record Keeps (order : Order) (as_given taken : List Feature) (old new : Sweeping) : Type 0 where
+pub record KeepsRules (order : Order) (as_given taken : List Feature) (old new : Sweeping) : Type 0 where
   pub same : SameConfig old new
-  pub holds : Holds order as_given taken new
+  pub holds : HoldsDue order as_given taken new
 
 -- these lines were put after those that were pending, except the ones that are left pending
 pub record GrownWith (pending : List ℕ) (out : Output) (lines left : List ℕ) (grown : Output) : Type 0 where
@@ -58,7 +58,7 @@ pub record GivenLast (For : Order → Type 0) (first : Feature) (firsts seconds 
   pub before : List Feature
   pub taken : List Feature
   pub is_for : For order
-  pub holds : Holds order (before ++ first ∷ []) taken old
+  pub holds : HoldsDue order (before ++ first ∷ []) taken old
   pub placed : ArePlaced order (intervals_of (before ++ first ∷ firsts))
   pub placed_taken : ArePlaced order (intervals_of (taken ++ seconds))
 
@@ -68,7 +68,7 @@ module _ (For : Order → Type 0) (first : Feature) (firsts seconds : List Featu
   abbrev pub GoesToFor : Sweeping → Type 0
   GoesToFor new =
       (at : GivenLast For first firsts seconds old)
-      → Keeps at.order (at.before ++ first ∷ firsts) (at.taken ++ seconds) old new
+      → KeepsRules at.order (at.before ++ first ∷ firsts) (at.taken ++ seconds) old new
 
   -- the lines of these were written after those that were pending, except the ones that are left pending
   abbrev pub WritesFor : List Feature → List ℕ → Output → List ℕ → Output → Type 0
@@ -117,7 +117,7 @@ module _ {A R : Type 0} (cursor : Cursor A R) (place : ℕ) (old : Sweeping) (fi
     pub writes : WritesFor IsTotal first firsts [] old newly pending out left grown
 
   -- they couldn't all be written
-  pub record CutsOff (fault : FaultValue) (to : A) (grown : Output) : Type 0 where
+  pub record BreaksOff (fault : FaultValue) (to : A) (grown : Output) : Type 0 where
     pub firsts : List Feature
     pub newly : List Feature
     pub waiting : Option Feature
@@ -154,7 +154,7 @@ WritesUpTo cursor feature place first before (Ok waiting) after =
     after.sweep after.inputs after.pending after.out
     × StopsBehind cursor place (option_map feature waiting) after.inputs
 WritesUpTo cursor feature place first before (Err fault) after =
-    CutsOff cursor place before.sweep first before.inputs before.pending before.out (fault_value fault) after.inputs
+    BreaksOff cursor place before.sweep first before.inputs before.pending before.out (fault_value fault) after.inputs
     after.out
 
 -- all records that there were are given
@@ -167,8 +167,8 @@ pub record SkipsAll {B S : Type 0} (cursor : Cursor B S) (from to : B) : Type 0 
 -- records of both inputs, from `first` of the first on
 module _ {A B R S : Type 0} (cursor_a : Cursor A R) (cursor_b : Cursor B S) (For : Order → Type 0)
     (Settles : List Feature → List Feature → Type 0) (old : Sweeping) (first : Feature) (from_a : A) (from_b : B) where
-  abbrev pub Proceeded : Option Feature → A → B → Type 0
-  Proceeded waiting to_a to_b =
+  abbrev pub JoinProceeded : Option Feature → A → B → Type 0
+  JoinProceeded waiting to_a to_b =
       Proceeds cursor_a cursor_b Settles (λ firsts seconds. TakesEachFor For first firsts seconds old) (first ∷ [])
       waiting from_a to_a from_b to_b
 
@@ -176,7 +176,7 @@ module _ {A B R S : Type 0} (cursor_a : Cursor A R) (cursor_b : Cursor B S) (For
     -- the lines of those of the first were written or are left pending, except the last one, if that waits
     pub record JoinsSo (waiting : Option Feature) (new : Sweeping) (to_a : A) (to_b : B) (left : List ℕ)
         (grown : Output) : Type 0 where
-      pub proceeds : Proceeded waiting to_a to_b
+      pub proceeds : JoinProceeded waiting to_a to_b
       pub waits : WaitsOn first.chrom new.held waiting
       pub goes : GoesToFor For first proceeds.firsts proceeds.seconds old new
       pub writes : WritesFor For first proceeds.firsts proceeds.seconds old proceeds.newly pending out left grown
@@ -192,14 +192,14 @@ module _ {A B R S : Type 0} (cursor_a : Cursor A R) (cursor_b : Cursor B S) (For
     -- it failed once these lines of the first were settled
     pub record Breaks (fault : FaultValue) (to_a : A) (to_b : B) (left : List ℕ) (grown : Output) : Type 0 where
       pub waiting : Option Feature
-      pub proceeds : Proceeded waiting to_a to_b
+      pub proceeds : JoinProceeded waiting to_a to_b
       pub cause : CutsFor For first proceeds.firsts proceeds.seconds old proceeds.newly pending out fault grown
           ⊎ LacksRoom proceeds.firsts proceeds.seconds proceeds.newly waiting to_b fault left grown
 
 -- one waits and there is none of the second input, or there is none of the first
-abbrev pub StopsAt : {A B R S : Type 0} → Cursor A R → Cursor B S → Option Feature → A → B → Type 0
-StopsAt cursor_a cursor_b None to_a to_b = cursor_a.has_ended to_a
-StopsAt cursor_a cursor_b (Some a) to_a to_b = cursor_b.has_ended to_b
+abbrev pub LacksNext : {A B R S : Type 0} → Cursor A R → Cursor B S → Option Feature → A → B → Type 0
+LacksNext cursor_a cursor_b None to_a to_b = cursor_a.has_ended to_a
+LacksNext cursor_a cursor_b (Some a) to_a to_b = cursor_b.has_ended to_b
 
 abbrev pub Joins : {A B R S : Type 0} → Cursor A R → Cursor B S → (Order → Type 0)
     → (List Feature → List Feature → Type 0) → (List Feature → Feature → Type 0) → (R → Feature) → Feature
@@ -207,7 +207,7 @@ abbrev pub Joins : {A B R S : Type 0} → Cursor A R → Cursor B S → (Order �
 Joins cursor_a cursor_b For Settles Leaves feature first before (Ok waiting) after =
     (j : JoinsSo cursor_a cursor_b For Settles before.sweep first before.inputs.0 before.inputs.1 before.pending
     before.out (option_map feature waiting) after.sweep after.inputs.0 after.inputs.1 after.pending after.out)
-    × StopsAt cursor_a cursor_b (option_map feature waiting) after.inputs.0 after.inputs.1
+    × LacksNext cursor_a cursor_b (option_map feature waiting) after.inputs.0 after.inputs.1
     × IfSome (option_map feature waiting) (Leaves j.proceeds.seconds)
 Joins cursor_a cursor_b For Settles Leaves feature first before (Err fault) after =
     Breaks cursor_a cursor_b For Settles before.sweep first before.inputs.0 before.inputs.1 before.pending before.out
@@ -245,8 +245,8 @@ IsUnmatched Itself shape = (a : Feature) → a.start < a.stop → lines_of shape
 IsUnmatched Counted shape = (a : Feature) → lines_of shape a [] ≡ line_with (bed_text a ∷ decimal 0 ∷ [])
 
 -- the sweep with b held, if a or a later record can be hit by it
-abbrev pub holding : Sweeping → Feature → Feature → Sweeping
-holding old a b = record old { held = old.held ++ filter (is_held a) (b ∷ []) }
+abbrev pub holding_second : Sweeping → Feature → Feature → Sweeping
+holding_second old a b = record old { held = old.held ++ filter (is_held a) (b ∷ []) }
 
 -- the sweep after a fault
 abbrev pub stopped : Sweeping → Sweeping
@@ -257,10 +257,10 @@ abbrev pub has_room_in : Sweeping → Bool
 has_room_in sweep = has_room sweep.limit (length sweep.held)
 
 -- taking b, at a line, which leaves a undecided
-abbrev pub Takes : {A : Type 0} → Sweeping → Feature → Feature → ℕ → Result A Fault → Sweeping → Type 0
-Takes old a b line (Ok done) new =
-    (new ≡ holding old a b) × (is_held a b ≡ true → has_room_in old ≡ true)
-Takes old a b line (Err fault) new =
+abbrev pub TakesSecond : {A : Type 0} → Sweeping → Feature → Feature → ℕ → Result A Fault → Sweeping → Type 0
+TakesSecond old a b line (Ok done) new =
+    (new ≡ holding_second old a b) × (is_held a b ≡ true → has_room_in old ≡ true)
+TakesSecond old a b line (Err fault) new =
     (new ≡ stopped old) × (is_held a b ≡ true) × CannotHold (has_room_in old) line (fault_value fault)
 
 -- keeping a copy of a, which waits; a short one is kept inline
@@ -283,8 +283,8 @@ unfoldable pub line_in : List ℕ → ℕ → List ℕ
 line_in consumed to = drop to consumed
 
 -- no line is left pending in a shape that writes none of a record that nothing hits
-abbrev pub IsQuiet : Shape → List ℕ → Type 0
-IsQuiet shape pending = NeedsHit shape → pending ≡ []
+abbrev pub FitsShape : Shape → List ℕ → Type 0
+FitsShape shape pending = NeedsHit shape → pending ≡ []
 
 -- whether these bytes, which may be none, could be put
 abbrev pub PutsOr : Bool → Output → List ℕ → Output → Type 0

@@ -8,7 +8,7 @@ ghost use Rattle.bt_bed.specs.model.BedLine.{fault_at_line};
 ghost use Rattle.bt_bed.specs.calls.Orders.{IsTotal};
 ghost use Rattle.bt_sweep.specs.calls.Held.{AreReady, AreRising, CanHit, CanHitAt};
 ghost use Rattle.bt_sweep.specs.model.Lines.{lines_for};
-ghost use Rattle.bt_sweep.specs.inside.Joining.{AddsWith, AreDecidedOn, Joins, LeavesOn, SkipsAll, WritesUpTo, waiting_in, IsQuiet, PutsOr, line_in, lines_pending, KeepsOne, Takes, are_on, has_room_in, held_with, stands, stopped};
+ghost use Rattle.bt_sweep.specs.inside.Joining.{AddsWith, AreDecidedOn, Joins, LeavesOn, SkipsAll, WritesUpTo, waiting_in, FitsShape, PutsOr, line_in, lines_pending, KeepsOne, TakesSecond, are_on, has_room_in, held_with, stands, stopped};
 ghost use Rattle.bt_sweep.specs.calls.Sweeping.{want_in};
 
 use crate::active::held::Held;
@@ -242,7 +242,7 @@ impl<H: Held> State<H> {
         requires none { self.old.current ≡ None }
         requires hits { All (CanHit (A.feature a.now)) self.old.held }
         requires on { (B.feature b.now).chrom ≡ (A.feature a.now).chrom }
-        ensures takes { Takes self.old (A.feature a.now) (B.feature b.now) line result self.new }
+        ensures takes { TakesSecond self.old (A.feature a.now) (B.feature b.now) line result self.new }
         ensures hits { OnOk result (All (CanHit (A.feature a.now)) self.new.held) }
     {
         if b.stop() <= a.start() {
@@ -302,12 +302,12 @@ impl<H: Held> State<H> {
         requires filled { (A.Record.feature a.now).start < (A.Record.feature a.now).stop }
         requires hits { All (CanHit (A.Record.feature a.now)) self.old.held }
         requires line { line_in (A.consumed firsts.old.cursor) firsts.old.to ≡ A.Record.raw a.now }
-        requires quiet { IsQuiet self.old.shape (lines_pending firsts.old) }
+        requires quiet { FitsShape self.old.shape (lines_pending firsts.old) }
         ensures same { OnOk result (self.new ≡ self.old) }
         ensures stops { OnErr result (self.new ≡ stopped self.old) }
         ensures cursor { firsts.new.cursor ≡ firsts.old.cursor }
         ensures line { OnOk result (line_in (A.consumed firsts.new.cursor) firsts.new.to ≡ []) }
-        ensures quiet { OnOk result (IsQuiet self.old.shape (lines_pending firsts.new)) }
+        ensures quiet { OnOk result (FitsShape self.old.shape (lines_pending firsts.new)) }
         ensures puts { AreRising self.old.held
             → AddsWith (lines_pending firsts.old) out.old.output
             (lines_for self.old.shape self.old.rule (A.Record.feature a.now) self.old.held) result
@@ -379,13 +379,13 @@ impl<H: Held> State<H> {
         requires hits { All (CanHit (A.Record.feature first.old)) self.old.held }
         requires on { A.name firsts.old.cursor ≡ (A.Record.feature first.old).chrom }
         requires line { line_in (A.consumed firsts.old.cursor) firsts.old.to ≡ A.Record.raw first.old }
-        requires quiet { IsQuiet self.old.shape (lines_pending firsts.old) }
+        requires quiet { FitsShape self.old.shape (lines_pending firsts.old) }
         ensures writes { WritesUpTo A.Cursor A.Record.feature place (A.Record.feature first.old)
             (stands self.old firsts.old.cursor (lines_pending firsts.old) out.old.output) (waiting_in first.new result)
             (stands self.new firsts.new.cursor (lines_pending firsts.new) out.new.output) }
         ensures on { A.name firsts.new.cursor ≡ A.name firsts.old.cursor }
         ensures line { IfOk result (λ is_left. is_left ≡ true → line_in (A.consumed firsts.new.cursor) firsts.new.to ≡ A.Record.raw first.new) }
-        ensures quiet { OnOk result (IsQuiet self.new.shape (lines_pending firsts.new)) }
+        ensures quiet { OnOk result (FitsShape self.new.shape (lines_pending firsts.new)) }
         ensures none { self.new.current ≡ None }
         ensures phase { OnOk result (self.new.phase ≡ self.old.phase) }
         ensures stops { OnErr result (self.new.phase ≡ Phase.Over) }
@@ -474,7 +474,7 @@ impl<H: Held> State<H> {
         requires on { A.name firsts.old.cursor ≡ (A.Record.feature first).chrom }
         requires beside { B.name seconds.old ≡ (A.Record.feature first).chrom }
         requires line { line_in (A.consumed firsts.old.cursor) firsts.old.to ≡ A.Record.raw first }
-        requires quiet { IsQuiet self.old.shape (lines_pending firsts.old) }
+        requires quiet { FitsShape self.old.shape (lines_pending firsts.old) }
         ensures joins { Joins A.Cursor B.Cursor IsTotal (AreDecidedOn (A.Record.feature first).chrom) LeavesOn
             A.Record.feature (A.Record.feature first)
             (stands self.old (firsts.old.cursor, seconds.old) (lines_pending firsts.old) out.old.output) result

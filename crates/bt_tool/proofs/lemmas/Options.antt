@@ -12,7 +12,7 @@ use Rattle.bt_tool.specs.declared.planning.plan_type.Plan.{Plan}
 use Rattle.bt_tool.specs.declared.options.usage.Refusal.{Refusal}
 use Rattle.std.specs.declared.alloc.Global.{Global}
 use Rattle.bt_lines.specs.model.Lines.{max_number, value_of as number_of}
-use Rattle.bt_tool.specs.calls.Given.{items_in}
+use Rattle.bt_tool.specs.calls.Given.{items_of_words}
 use Rattle.bt_tool.specs.calls.Lent.{table_lent}
 use Rattle.bt_tool.specs.calls.Limits.{is_limit, IsNamedBy}
 use Rattle.bt_tool.specs.declared.options.given.Given.{Given}
@@ -106,13 +106,13 @@ reports_refusal words result h = grind (arith, refusal_reports)
 pub options-given : (words : List (String Global)) (given : Given) (tool : Tool)
     → table_lent given.table.now ≡ table_of tool → given.words.now ≡ words
     → command_of (words_seen words) ≡ Some tool
-    → options (words_seen words) ≡ checked tool (items_in given)
+    → options (words_seen words) ≡ checked tool (items_of_words given)
 options-given words given tool table same named =
     let known : command_of (words_seen given.words.now) ≡ Some tool =
     ap (λ w. command_of (words_seen w)) same ∙ named in
     let whole : word_fault (table_of tool) 1 (drop 1 (words_seen given.words.now)) ≡ None =
     ap (λ t. word_fault t 1 (drop 1 (words_seen given.words.now))) (sym table) ∙ given.no_fault in
-    let items : items_of (table_of tool) (drop 1 (words_seen given.words.now)) ≡ items_in given =
+    let items : items_of (table_of tool) (drop 1 (words_seen given.words.now)) ≡ items_of_words given =
     ap (λ t. items_of t (drop 1 (words_seen given.words.now))) (sym table) in
     ap (λ w. options (words_seen w)) (sym same)
     ∙ options-checked (words_seen given.words.now) tool known whole ∙ ap (checked tool) items
@@ -135,16 +135,16 @@ module _ (words : List (String Global)) (tool : Tool) (named : command_of (words
 
   -- or the items together are, or the words mean a plan
   module _ (given : Given) (mine : given.table.now ≡ table) (same : given.words.now ≡ words) where
-    checked-by : (fault : Option Usage) → fault_together (table_lent given.table.now) (items_in given) ≡ fault
-        → (options (words_seen words) ≡ checked tool (items_in given)) × (fault_together (table_of tool) (items_in given) ≡ fault)
+    checked-by : (fault : Option Usage) → fault_together (table_lent given.table.now) (items_of_words given) ≡ fault
+        → (options (words_seen words) ≡ checked tool (items_of_words given)) × (fault_together (table_of tool) (items_of_words given) ≡ fault)
     checked-by fault e =
         let table_is = same_table given.table.now table (table_of tool) mine is in
-        (options-given words given tool table_is same named, together_at (items_in given) given.table.now (table_of tool) fault table_is e)
+        (options-given words given tool table_is same named, together_at (items_of_words given) given.table.now (table_of tool) fault table_is e)
 
-    pub fault-items : (usage : Usage) → fault_together (table_lent given.table.now) (items_in given) ≡ Some usage → options (words_seen words) ≡ Err usage
+    pub fault-items : (usage : Usage) → fault_together (table_lent given.table.now) (items_of_words given) ≡ Some usage → options (words_seen words) ≡ Err usage
     fault-items usage e = let by = checked-by (Some usage) e in by.0 ∙ rw (by.1, checked) refl
 
-    pub plan-items : fault_together (table_lent given.table.now) (items_in given) ≡ None → options (words_seen words) ≡ Ok (plan_of tool (items_in given))
+    pub plan-items : fault_together (table_lent given.table.now) (items_of_words given) ≡ None → options (words_seen words) ≡ Ok (plan_of tool (items_of_words given))
     plan-items e = let by = checked-by None e in by.0 ∙ rw (by.1, checked) refl
 
 -- a fault that the words mean can be reported of them
@@ -176,10 +176,10 @@ valued-last table option last has h e = grind arith
 
 -- an option that takes a file name and is given has a value
 pub valued : (given : Given) (option : Word) → takes (table_lent given.table.now) option ≡ Some FileName
-    → value_of (items_in given) option ≡ None → last_item option (items_in given) ≡ None
+    → value_of (items_of_words given) option ≡ None → last_item option (items_of_words given) ≡ None
 valued given option file e =
     let table = table_lent given.table.now in
-    let items = items_in given in
+    let items = items_of_words given in
     valued-last table option (last_item option items) file
     (λ item f. last-is table option items item (allowed table (drop 1 (words_seen given.words.now))) f) e
 
@@ -219,16 +219,16 @@ some-copy copy value e h = grind arith
 
 -- the copy of a name is there if its option is required, and isn't if there is no such option
 pub named : (given : Given) (table : Table) (option : Option Word) (copy : Option (String Global))
-    → table_lent given.table.now ≡ table → fault_together table (items_in given) ≡ None
+    → table_lent given.table.now ≡ table → fault_together table (items_of_words given) ≡ None
     → ((word : Word) → option ≡ Some word → takes table word ≡ Some FileName)
-    → option_map string_bytes copy ≡ value_if_any (items_in given) option → IsNamedBy table option copy
+    → option_map string_bytes copy ≡ value_if_any (items_of_words given) option → IsNamedBy table option copy
 named given table None copy same none file e = ((λ h. absurd (false≢true h)), λ _. grind arith)
 named given table (Some option) copy same none file e = (
-  (λ h. some-copy copy (value_of (items_in given) option) e
-      (some-value (value_of (items_in given) option) (λ v.
-      not-given (items_in given) option
+  (λ h. some-copy copy (value_of (items_of_words given) option) e
+      (some-value (value_of (items_of_words given) option) (λ v.
+      not-given (items_of_words given) option
       (valued given option (ap (λ t. takes t option) same ∙ file option refl) v)
-      (given-among (items_in given) option table.required (grind arith)
+      (given-among (items_of_words given) option table.required (grind arith)
       (grind arith))))),
   λ h. absurd (false≢true (sym h)),
 )

@@ -3,7 +3,7 @@ use Rattle.std.specs.Prelude.{ℕ, ◌<◌, ◌≤◌, List, ◌++◌, IsTrue, �
 use Rattle.bt_tool.specs.declared.options.usage.Usage.{Usage}
 use Rattle.bt_tool.specs.model.Table.{Word, Table, fits, takes, table_of}
 use Rattle.bt_tool.specs.declared.options.takes.Takes.{Takes}
-use Rattle.bt_tool.specs.model.Usage.{names_word, Item, spelled, no_command}
+use Rattle.bt_tool.specs.model.Usage.{names_word, Item, words_spelled, no_command}
 use Rattle.bt_tool.specs.declared.options.tool.Tool.{Tool}
 use Rattle.bt_tool.specs.model.Options.{PlanSeen, fault_past, checked, command_of}
 use Rattle.bt_tool.specs.declared.options.usage.Refusal.{Refusal}
@@ -18,9 +18,9 @@ IsItem table item =
 -- the longest prefix of the words that divides into items is divided into these
 pub record IsLongestDivision (table : Table) (words : List Word) (items : List Item) : Type 0 where
   pub allowed : All (IsItem table) items
-  pub front : (rest : List Word) × (words ≡ spelled items ++ rest)
+  pub front : (rest : List Word) × (words ≡ words_spelled items ++ rest)
   pub longest : (others : List Item) (rest : List Word) → All (IsItem table) others
-      → words ≡ spelled others ++ rest → length (spelled others) ≤ length (spelled items)
+      → words ≡ words_spelled others ++ rest → length (words_spelled others) ≤ length (words_spelled items)
 
 -- the result for the words after a command, by the items of their longest division
 pub record AnswersPlan (tool : Tool) (words : List Word) (answer : Result PlanSeen Usage)

@@ -81,7 +81,7 @@ module _ {S A State : Type 0} (device : Source S) where
 
   module _ (old : MemberReader S A State) where
     -- these members were consumed, and more may be buffered
-    pub record Passes (past : List (Member A)) (now : MemberReader S A State) : Type 0 where
+    pub record PassesMembers (past : List (Member A)) (now : MemberReader S A State) : Type 0 where
       pub format : now.format ≡ old.format
       pub bytes : (bytes : List ℕ) × Hands device.left old.below bytes now.below
       pub said : AreSaid old.format old.state (member_items past)
@@ -247,9 +247,9 @@ module _ {S A State : Type 0} (settled : List A → List ℕ) (Kinds : Kind → 
     pub served : device.has_failed (source_of new.below) ≡ device.has_failed (source_of old.below)
 
   -- why the members weren't all taken
-  abbrev pub StopCause : MemberReader S A State → Output → List (Member A) → FaultValue
+  abbrev pub FeedStopCause : MemberReader S A State → Output → List (Member A) → FaultValue
       → MemberReader S A State → Output → Type 0
-  StopCause old out past fault new grown =
+  FeedStopCause old out past fault new grown =
       StopsTaking old out past fault new grown ⊎ StopsWriting old out past fault new grown
 
   -- the members were taken up to a fault
@@ -259,7 +259,7 @@ module _ {S A State : Type 0} (settled : List A → List ℕ) (Kinds : Kind → 
     pub took : Took old out past new grown
     pub begins : IfSome (good_coming device.left old)
         (λ good. (rest : List (Member A)) × (good.members ≡ past ++ rest))
-    pub cause : StopCause old out past fault new grown
+    pub cause : FeedStopCause old out past fault new grown
     -- unless a write failed, what was put is what the members of the lines before settle
     pub exact : fault ≢ write_failed → PutsLines out (settled (member_items took.before)) grown
 

@@ -17,7 +17,7 @@ use Rattle.bt_bed.specs.calls.Reading.{MemberReader, room}
 use Rattle.bt_seq.specs.calls.MaskStage.{MaskStage}
 use Rattle.bt_seq.specs.calls.MaskState.{Masking, left_after}
 use Rattle.bt_seq.specs.calls.MaskSteps.{MaskStandsAt}
-use Rattle.bt_seq.specs.model.Masked.{decided, masked_line, names_of, no_sequence, Reached, SequenceLine, sequence_format}
+use Rattle.bt_seq.specs.model.Masked.{line_decided, masked_line, names_of_sequences, no_sequence, Reached, SequenceLine, sequence_format}
 use Rattle.bt_seq.specs.declared.mask.mask_how.MaskHow.{MaskHow}
 use Rattle.bt_seq.specs.declared.mask.MaskWant.{MaskWant}
 use Rattle.bt_seq.specs.declared.mask.MaskWant.TheVariants.{Line as WantLine, Bed as WantBed, Nothing}
@@ -35,25 +35,25 @@ abbrev pub line_members : {S : Type 0} → Bool → Reached → LineReader S
 line_members full reached lines = lines_read (sequence_format full) reached lines
 
 -- these records leave one of the lines undecided
-abbrev pub leaves_some : List SequenceLine → List Feature → Bool
-leaves_some lines records = list_any (λ line. not (decided line records)) lines
+abbrev pub leaves_some_line : List SequenceLine → List Feature → Bool
+leaves_some_line lines records = list_any (λ line. not (line_decided line records)) lines
 
 -- the block of each of these records belongs to a sequence of the lines
 abbrev pub AreOwned : List SequenceLine → List Feature → Type 0
-AreOwned lines records = is_some (left_after (names_of lines) records) ≡ true
+AreOwned lines records = is_some (left_after (names_of_sequences lines) records) ≡ true
 
 -- what masking makes of a line by records
 abbrev pub mask_join : MaskHow → JoinDef SequenceLine Feature
 mask_join how = record {
-  decided = decided;
+  line_decided = line_decided;
   bytes = λ line records. masked_line how records line;
   limited = λ lines second. second;
   Fits = λ lines members. ⊤;
   -- the first record without a sequence
-  last = λ lines members. no_sequence (names_of lines) members;
+  last = λ lines members. no_sequence (names_of_sequences lines) members;
   reaches = lines_need;
   -- if records were taken, they leave one of the lines given undecided
-  Asks = λ lines records. (records ≡ []) ⊎ IsTrue (leaves_some lines records);
+  Asks = λ lines records. (records ≡ []) ⊎ IsTrue (leaves_some_line lines records);
   InOrder = AreInBlocks;
   first_kinds = IsOneOf is_fasta_kind;
   second_kinds = IsOneOf is_mask_kind;
@@ -123,13 +123,13 @@ module _ {A B : Type 0} (source_a : Source A) (source_b : Source B) (start : Mas
     pub kept_ahead : (r : Feature) → stage.ahead ≡ Some r → item_ahead second ≡ Some r
     pub lines_over : stage.inputs.first_ended ≡ true → has_ended lines ≡ true
 
-  abbrev pub GoesOn : LineReader A → MemberReader B Feature (Option Locus) → Masking → Output
+  abbrev pub LoopGoesOn : LineReader A → MemberReader B Feature (Option Locus) → Masking → Output
       → Type 0
-  GoesOn lines second mask grown = (reached : Reached) × Masks reached lines second mask grown
+  LoopGoesOn lines second mask grown = (reached : Reached) × Masks reached lines second mask grown
 
   -- the lines and the records so far were given, and all reads served
   pub record MaskComes (now : MaskRun A B) (grown : Output) : Type 0 where
-    pub goes : GoesOn now.lines (view_of now.records) now.mask grown
+    pub goes : LoopGoesOn now.lines (view_of now.records) now.mask grown
     pub reads : HaveRead begun_pair
         (line_members start.mask.full goes.0 now.lines) (view_of now.records)
 

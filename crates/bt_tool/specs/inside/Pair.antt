@@ -11,7 +11,7 @@ use Rattle.bt_lines.specs.declared.fault.Kind.{Kind}
 use Rattle.bt_bed.specs.model.Good.{Good, Member, items_in}
 use Rattle.bt_bed.specs.calls.Stage.{Stage, given}
 use Rattle.bt_bed.specs.calls.Reading.{MemberReader, ahead_in, good_coming}
-use Rattle.bt_tool.specs.inside.Feed.{HasPut, member_items, AreAll, IsReadFor, Passes, CutsLines, PutsLines, TookButBlock, HasFaultBehind, IsReadTo, KeepsOwnFault}
+use Rattle.bt_tool.specs.inside.Feed.{HasPut, member_items, AreAll, IsReadFor, PassesMembers, CutsLines, PutsLines, TookButBlock, HasFaultBehind, IsReadTo, KeepsOwnFault}
 use Rattle.bt_lines.specs.declared.fault.Input.{Input}
 use Rattle.bt_lines.specs.declared.fault.Input.TheVariants.{Second}
 use Rattle.bt_bed.specs.model.BedLine.{fault_at_line}
@@ -89,8 +89,8 @@ module _ {A B X Y U V : Type 0} (join : JoinDef X Y) (pair : Pair A B X Y U V) (
   -- these members were given
   pub record Comes (first : MemberReader A X U) (second : MemberReader B Y V)
       (grown : Output) : Type 0 where
-    pub first_passes : Passes pair.source_a pair.first past_first first
-    pub second_passes : Passes pair.source_b pair.second past_second second
+    pub first_passes : PassesMembers pair.source_a pair.first past_first first
+    pub second_passes : PassesMembers pair.source_b pair.second past_second second
     pub all_given : given stage ≡ member_items past_first
     pub all_taken : stage.taken ≡ member_items past_second
     pub bytes : List ℕ

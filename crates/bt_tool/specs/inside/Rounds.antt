@@ -42,8 +42,8 @@ module _ {E : Type 0} (def : TwoInputDef E) where
   LeadsTo start out Goes (Err fault) new later = def.ends start out (Some (fault_value fault)) new later
 
   -- the run has ended
-  abbrev pub Finishes : {T : Type 0} → E → Output → Result T Fault → E → Type 0
-  Finishes old grown result new = (start : E) (out : Output) → def.comes start out old grown
+  abbrev pub EndsRun : {T : Type 0} → E → Output → Result T Fault → E → Type 0
+  EndsRun old grown result new = (start : E) (out : Output) → def.comes start out old grown
       → def.ends start out (fault_in result) new grown
 
   -- the input that is wanted was read on

@@ -22,7 +22,7 @@ use Rattle.bt_bed.specs.declared.order.ChromOrder.{Ghosts}
 use Rattle.bt_bed.specs.declared.read.records.Records.{Records}
 use Rattle.bt_sweep.specs.model.Hits.{decided, are_too_many, cut_behind, limited}
 use Rattle.bt_sweep.specs.model.Lines.{lines_for}
-use Rattle.bt_sweep.specs.calls.Sweeping.{StandsAt, leaves_some, Sweeping, is_over, want_in}
+use Rattle.bt_sweep.specs.calls.Sweeping.{StandsAt, leaves_some, Sweeping, phase_is_over, want_in}
 use Rattle.bt_bed.specs.calls.Stage.{Stage, given}
 use Rattle.bt_sweep.specs.calls.SweepView.{order_of as sweep_order, state_of}
 use Rattle.bt_sweep.specs.declared.sweep.Want.{Want}
@@ -31,7 +31,7 @@ use Rattle.bt_tool.specs.declared.loops.sweeping.SweepRun.{SweepRun}
 use Rattle.bt_tool.specs.model.Written.{IsSweptKind, records_need}
 use Rattle.bt_tool.specs.inside.Pair.{Comes, IsKnown, JoinDef, Pair, HaveRead, IsOverWith}
 use Rattle.bt_tool.specs.inside.Rounds.{IsBuffered, TwoInputDef}
-use Rattle.bt_tool.specs.inside.Feed.{AreAll, Passes, StopsAfter}
+use Rattle.bt_tool.specs.inside.Feed.{AreAll, PassesMembers, StopsAfter}
 
 -- Whatever comes after them of either input, by these records of the first the limit doesn't lie
 -- among these of the second.
@@ -120,7 +120,7 @@ module _ {A B O : Type 0} {g : Ghosts O} where
 
   abbrev pub left_to_sweep : SweepRun A B O g → ℕ
   left_to_sweep now = 2 * (room now.first + room now.second)
-      + sweep_rounds (is_some (state_of now.sweep).current) (is_over (state_of now.sweep).phase)
+      + sweep_rounds (is_some (state_of now.sweep).current) (phase_is_over (state_of now.sweep).phase)
 
   module _ (source_a : Source A) (source_b : Source B) (start : SweepRun A B O g)
       (out : Output) where
@@ -165,14 +165,14 @@ module _ {S A State : Type 0} (device : Source S)
   abbrev pub ChecksRest : {T : Type 0} → (Kind → Type 0) → Result T Fault → MemberReader S A State
       → Type 0
   ChecksRest Kinds (Ok done) new = (more : List (Member A))
-      × Passes device old (past ++ more) new × AreAll device old (past ++ more)
+      × PassesMembers device old (past ++ more) new × AreAll device old (past ++ more)
   ChecksRest Kinds (Err fault) new = ChecksUpTo Kinds (fault_value fault) new
 
 -- reading on to the end, from wherever the reader is
 abbrev pub ReadsRest : {S A State T : Type 0} → Source S → (Kind → Type 0) → MemberReader S A State
     → Result T Fault → MemberReader S A State → Type 0
 ReadsRest {S} {A} {State} {T} device Kinds before result new =
-    (old : MemberReader S A State) (past : List (Member A)) → Passes device old past before
+    (old : MemberReader S A State) (past : List (Member A)) → PassesMembers device old past before
     → ((state : State) (line : TextLine) (kind : Kind) → old.format.says state line ≡ Err kind
     → Kinds kind)
     → ChecksRest device old past before Kinds result new

@@ -17,7 +17,7 @@ use Rattle.bt_tool.specs.declared.options.tool.Tool.TheVariants.{Merge, Compleme
 use Rattle.bt_tool.specs.declared.options.usage.Usage.{Usage}
 use Rattle.bt_tool.specs.model.Table.{character_of, Word, Table, command_named, table_of, takes}
 use Rattle.bt_tool.specs.model.Fraction.{fraction_of}
-use Rattle.bt_tool.specs.model.Usage.{Item, items_of, spelled, no_command, unknown_option, value_missing, bad_value, required_missing, options_exclusive, input_named_twice}
+use Rattle.bt_tool.specs.model.Usage.{Item, items_of, words_spelled, no_command, unknown_option, value_missing, bad_value, required_missing, options_exclusive, input_named_twice}
 use Rattle.bt_tool.specs.declared.planning.plan_type.Command.TheVariants as does
 
 -- the names of the inputs and of the output
@@ -50,18 +50,18 @@ abbrev pub value_if_any : List Item → Option Word → Option Word
 value_if_any items option = option_and_then (value_of items) option
 
 -- the fault of the first word that begins no item, at this index among all words
-abbrev pub fault_at : Table → ℕ → List Word → Option Usage
-fault_at table at [] = None
-fault_at table at (option ∷ []) =
+abbrev pub bad_word_fault : Table → ℕ → List Word → Option Usage
+bad_word_fault table at [] = None
+bad_word_fault table at (option ∷ []) =
     Some (if is_some (takes table option) then value_missing at else unknown_option at)
-fault_at table at (option ∷ value ∷ rest) =
+bad_word_fault table at (option ∷ value ∷ rest) =
     Some (if is_some (takes table option) then bad_value at else unknown_option at)
 
 -- the fault of the first word past these items, of words that begin at this index
 abbrev pub fault_past : Table → ℕ → List Item → List Word → Option Usage
 fault_past table at items words =
-    let read = length (spelled items) in
-    fault_at table (at + read) (drop read words)
+    let read = length (words_spelled items) in
+    bad_word_fault table (at + read) (drop read words)
 
 -- the same past the items into which the words divide
 unfoldable pub word_fault : Table → ℕ → List Word → Option Usage

@@ -91,9 +91,9 @@ of_maskfasta how full = record {
 }
 
 -- the order in use: that of the genome file, if there is one, else that of the names' bytes
-abbrev pub order_of : Option (List Entry) → Order
-order_of None = byte_order
-order_of (Some entries) = rank_order (genome_names entries)
+abbrev pub order_in_use : Option (List Entry) → Order
+order_in_use None = byte_order
+order_in_use (Some entries) = rank_order (genome_names entries)
 
 -- the chromosomes of the genome file, of a command that has one
 abbrev pub entries_in : Option (List Entry) → List Entry
@@ -102,15 +102,15 @@ entries_in chromosomes = unwrap_or chromosomes []
 -- what each command does, by the chromosomes of the genome file, if there is one
 abbrev pub behaviour_of : Command → Option (List Entry) → Behaviour
 behaviour_of (Merge gap strand) chromosomes =
-    of_records (order_of chromosomes) (merge_written (order_of chromosomes) gap strand)
+    of_records (order_in_use chromosomes) (merge_written (order_in_use chromosomes) gap strand)
 behaviour_of (Complement limit) chromosomes =
-    of_records (order_of chromosomes) (complement_written (entries_in chromosomes) limit)
+    of_records (order_in_use chromosomes) (complement_written (entries_in chromosomes) limit)
 behaviour_of (Coverage zeros strand) chromosomes =
-    of_records (order_of chromosomes) (coverage_written (entries_in chromosomes) zeros strand)
+    of_records (order_in_use chromosomes) (coverage_written (entries_in chromosomes) zeros strand)
 behaviour_of (Intersect shape rule held) chromosomes =
-    of_intersect (order_of chromosomes) shape rule held
+    of_intersect (order_in_use chromosomes) shape rule held
 behaviour_of (Subtract whole rule held) chromosomes =
-    of_intersect (order_of chromosomes) (subtract_shape whole) rule held
+    of_intersect (order_in_use chromosomes) (subtract_shape whole) rule held
 behaviour_of (BamToBed split cigar) chromosomes =
     of_members (IsOneOf is_sam_kind) (alignments_written split cigar) sam_format
 behaviour_of (MaskFasta how full) chromosomes = of_maskfasta how full

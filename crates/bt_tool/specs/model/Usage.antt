@@ -31,8 +31,8 @@ input_named_twice = record { number = 7; word = 0 }
 abbrev pub names_word : ℕ → Bool
 names_word number = nat_le 2 number && nat_le number 4
 
-abbrev pub text_of : ℕ → List ℕ
-text_of number =
+abbrev pub usage_phrase : ℕ → List ℕ
+usage_phrase number =
     if nat_eq number 1 then codes "no or unknown command"
     else (if nat_eq number 2 then codes "unknown option"
     else (if nat_eq number 3 then codes "value missing"
@@ -44,7 +44,7 @@ text_of number =
 -- the line on standard error, with its line feed
 abbrev pub usage_text : List Word → Usage → List ℕ
 usage_text words usage =
-    codes "bedtools: " ++ text_of usage.number
+    codes "bedtools: " ++ usage_phrase usage.number
     ++ (if names_word usage.number then codes ": " ++ slice_index_or words usage.word [] else [])
     ++ 10 ∷ []
 
@@ -60,8 +60,8 @@ abbrev pub words_of : Item → List Word
 words_of item = item.option ∷ option_to_list item.value
 
 -- the words of some items, one after another
-abbrev pub spelled : List Item → List Word
-spelled items = flat_map words_of items
+abbrev pub words_spelled : List Item → List Word
+words_spelled items = flat_map words_of items
 
 -- the items into which the longest such prefix is divided
 unfoldable pub items_of : Table → List Word → List Item

@@ -24,7 +24,7 @@ use Rattle.bt_sweep.specs.model.Hits.{decides, limited}
 use Rattle.bt_sweep.specs.model.Lines.{intersect, intersect_met}
 use Rattle.bt_sweep.specs.declared.hits.hit_rule.HitRule.{HitRule}
 use Rattle.bt_sweep.specs.declared.output.shape.Shape.{Shape}
-use Rattle.bt_seq.specs.model.Masked.{decided, mask_met, masked_line, SequenceLine, sequence_format, sequence_good}
+use Rattle.bt_seq.specs.model.Masked.{line_decided, mask_met, masked_line, SequenceLine, sequence_format, sequence_good}
 use Rattle.bt_seq.specs.declared.mask.mask_how.MaskHow.{MaskHow}
 
 -- What a command of one input writes, by the members of that input.
@@ -154,10 +154,10 @@ decider order as_given (member ∷ members) =
     else decider order as_given members
 
 -- the last line that is needed: that of this member, or if there is none that of the fault
-abbrev pub last_line : Option (Member Feature) → Option FaultValue → Option ℕ
-last_line (Some member) fault = Some member.line
-last_line None None = None
-last_line None (Some fault) = option_map (λ place. place.line) fault.place
+abbrev pub last_line_needed : Option (Member Feature) → Option FaultValue → Option ℕ
+last_line_needed (Some member) fault = Some member.line
+last_line_needed None None = None
+last_line_needed None (Some fault) = option_map (λ place. place.line) fault.place
 
 -- the bytes of the lines up to one of this number, or of all
 abbrev pub bytes_up_to : List TextLine → Option ℕ → ℕ
@@ -167,7 +167,7 @@ bytes_up_to lines (Some line) = bytes_in (take line lines)
 -- how much of these lines the records of the first input need
 abbrev pub records_need : Order → List Feature → Good Feature → List TextLine → ℕ
 records_need order as_given second lines =
-    bytes_up_to lines (last_line (decider order as_given second.members) second.fault)
+    bytes_up_to lines (last_line_needed (decider order as_given second.members) second.fault)
 
 -- How much of the second input the records on these lines of the first need: its lines up to the
 -- first record that decides all of them. If none does, it is its lines up to the one at fault, if one
@@ -197,13 +197,13 @@ abbrev pub last_needed : List SequenceLine → List Feature → List (Member Fea
     → Option (Member Feature)
 last_needed lines before [] = None
 last_needed lines before (member ∷ members) =
-    if list_all (λ line. decided line (before ++ member.item ∷ [])) lines then Some member
+    if list_all (λ line. line_decided line (before ++ member.item ∷ [])) lines then Some member
     else last_needed lines (before ++ member.item ∷ []) members
 
 -- how much of these lines the lines of sequences need
 abbrev pub lines_need : List SequenceLine → Good Feature → List TextLine → ℕ
 lines_need items second lines =
-    bytes_up_to lines (last_line (last_needed items [] second.members) second.fault)
+    bytes_up_to lines (last_line_needed (last_needed items [] second.members) second.fault)
 
 -- How much of the second input the first lines of the first need: its lines up to the first
 -- record that with those before it decides all of them. If none does, it is its lines up to the one at

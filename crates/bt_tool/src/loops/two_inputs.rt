@@ -3,7 +3,7 @@
 ghost use Rattle.std.specs.Prelude.{◌≡◌, option_map};
 ghost use Rattle.bt_lines.specs.calls.Names.{fault_value};
 ghost use Rattle.bt_lines.specs.calls.Output.{Output};
-ghost use Rattle.bt_tool.specs.inside.Rounds.{FillsWanted, Finishes, Gives, TwoInputDef, Wants};
+ghost use Rattle.bt_tool.specs.inside.Rounds.{FillsWanted, EndsRun, Gives, TwoInputDef, Wants};
 ghost use Rattle.bt_bed.specs.calls.SortedReader.{fault_in};
 
 use bt_lines::{Fault, Out, Sink};
@@ -36,7 +36,7 @@ pub(crate) trait TwoInputEngine {
     // Called once nothing is wanted: checks what is left.
     fn finish(&mut self) -> Result<(), Fault>
         requires { definition.wants self.old ≡ Want.Nothing }
-        ensures { (grown : Output) → Finishes definition self.old grown result self.new };
+        ensures { (grown : Output) → EndsRun definition self.old grown result self.new };
 }
 
 // Reads on the input that is wanted, and returns false if none is.

@@ -3,7 +3,7 @@
 ghost use Rattle.std.specs.Prelude.{◌≡◌, Some, None, false, not, ◌&&◌, ◌||◌, MatchResult, option_map};
 ghost use Rattle.std.specs.List.{list_any};
 ghost use Rattle.std.specs.Option.{option_map_or};
-ghost use Rattle.bt_tool.specs.calls.Given.{items_in};
+ghost use Rattle.bt_tool.specs.calls.Given.{items_of_words};
 ghost use Rattle.bt_tool.specs.calls.Lent.{names_lent, table_lent};
 ghost use Rattle.bt_tool.specs.model.Options.{fault_together, has_exclusive, is_given, is_standard_input, lacks_option, overwrites, reads_twice};
 
@@ -20,7 +20,7 @@ pub fn is_standard_input(name: &str) -> bool
 
 // Whether an option is missing that has to be given.
 fn lacks_required(given: Given<'_>) -> bool
-    ensures { result ≡ list_any (λ option. not (is_given (items_in given.entry) option.now))
+    ensures { result ≡ list_any (λ option. not (is_given (items_of_words given.entry) option.now))
         given.entry.table.now.required.now }
 {
     given.table.required.iter().any(|option| !given.has(option))
@@ -28,15 +28,15 @@ fn lacks_required(given: Given<'_>) -> bool
 
 // Whether one of these options is given.
 fn gives_one(given: Given<'_>, options: &[&str]) -> bool
-    ensures { result ≡ list_any (λ option. is_given (items_in given.entry) option.now) options.now }
+    ensures { result ≡ list_any (λ option. is_given (items_of_words given.entry) option.now) options.now }
 {
     options.iter().any(|option| given.has(option))
 }
 
 // Whether two options are given that exclude one another.
 fn gives_both(given: Given<'_>) -> bool
-    ensures { result ≡ list_any (λ pair. is_given (items_in given.entry) pair.0.now
-        && is_given (items_in given.entry) pair.1.now) given.entry.table.now.exclusive.now }
+    ensures { result ≡ list_any (λ pair. is_given (items_of_words given.entry) pair.0.now
+        && is_given (items_of_words given.entry) pair.1.now) given.entry.table.now.exclusive.now }
 {
     given
         .table
@@ -77,7 +77,7 @@ fn reads_twice(names: NamedFiles<'_>) -> bool
 
 // Whether an option is missing that has to be given, or that is one of several.
 fn lacks_option(given: Given<'_>) -> bool
-    ensures { result ≡ lacks_option (table_lent given.entry.table.now) (items_in given.entry) }
+    ensures { result ≡ lacks_option (table_lent given.entry.table.now) (items_of_words given.entry) }
 {
     if lacks_required(given) {
         return true;
@@ -91,7 +91,7 @@ fn lacks_option(given: Given<'_>) -> bool
 
 // Whether two options are given that exclude one another, or the output has the name of an input.
 fn excludes(given: Given<'_>, names: NamedFiles<'_>) -> bool
-    ensures { result ≡ (has_exclusive (table_lent given.entry.table.now) (items_in given.entry)
+    ensures { result ≡ (has_exclusive (table_lent given.entry.table.now) (items_of_words given.entry)
         || overwrites (names_lent names.entry)) }
 {
     if gives_both(given) {
@@ -103,8 +103,8 @@ fn excludes(given: Given<'_>, names: NamedFiles<'_>) -> bool
 /// What the items have or lack together.
 pub(crate) fn check(given: Given<'_>) -> Result<(), Usage>
     ensures { MatchResult result
-        (λ _. fault_together (table_lent given.entry.table.now) (items_in given.entry) ≡ None)
-        (λ usage. fault_together (table_lent given.entry.table.now) (items_in given.entry) ≡ Some usage) }
+        (λ _. fault_together (table_lent given.entry.table.now) (items_of_words given.entry) ≡ None)
+        (λ usage. fault_together (table_lent given.entry.table.now) (items_of_words given.entry) ≡ Some usage) }
 {
     if lacks_option(given) {
         return Err(Usage::new(UsageKind::RequiredMissing));

@@ -20,7 +20,7 @@ pub(crate) struct Given<'a> {
 
 impl<'a> Given<'a> {
     ghost use Rattle.std.specs.Prelude.{MatchResult, Some, option_map};
-    ghost use Rattle.bt_tool.specs.calls.Given.{items_in};
+    ghost use Rattle.bt_tool.specs.calls.Given.{items_of_words};
     ghost use Rattle.bt_tool.specs.calls.Lent.{item_lent};
     ghost use Rattle.bt_tool.specs.model.Options.{is_given, last_item, value_of};
 
@@ -39,7 +39,7 @@ impl<'a> Given<'a> {
 
     /// The last item of an option, if it was given.
     pub(crate) fn last(self, option: &str) -> Option<Item<'a>>
-        ensures { option_map item_lent result ≡ last_item option.now (items_in self.entry) }
+        ensures { option_map item_lent result ≡ last_item option.now (items_of_words self.entry) }
     {
         let mut last = None;
         let mut at = 1;
@@ -57,14 +57,14 @@ impl<'a> Given<'a> {
 
     /// The value of an option, if it was given with one.
     pub(crate) fn value_of(self, option: &str) -> Option<&'a str>
-        ensures { option_map (λ value. value.now) result ≡ value_of (items_in self.entry) option.now }
+        ensures { option_map (λ value. value.now) result ≡ value_of (items_of_words self.entry) option.now }
     {
         self.last(option)?.value
     }
 
     /// Whether an option was given.
     pub(crate) fn has(self, option: &str) -> bool
-        ensures { result ≡ is_given (items_in self.entry) option.now }
+        ensures { result ≡ is_given (items_of_words self.entry) option.now }
     {
         self.last(option).is_some()
     }

@@ -1,7 +1,7 @@
 //! The names of a run's inputs and of its output, as the words have them.
 
 ghost use Rattle.std.specs.Prelude.{◌≡◌, option_map};
-ghost use Rattle.bt_tool.specs.calls.Given.{items_in};
+ghost use Rattle.bt_tool.specs.calls.Given.{items_of_words};
 ghost use Rattle.bt_tool.specs.calls.Lent.{names_lent, table_lent};
 ghost use Rattle.bt_tool.specs.model.Options.{named_by, output_by, value_if_any};
 
@@ -21,7 +21,7 @@ pub(crate) struct NamedFiles<'a> {
 // The value of an option that a tool may lack.
 fn value_if_any<'a>(given: Given<'a>, option: Option<&str>) -> Option<&'a str>
     ensures { option_map (λ value. value.now) result
-        ≡ value_if_any (items_in given.entry) (option_map (λ option. option.now) option.entry) }
+        ≡ value_if_any (items_of_words given.entry) (option_map (λ option. option.now) option.entry) }
 {
     given.value_of(option?)
 }
@@ -40,7 +40,7 @@ fn output_named<'a>(name: Option<&'a str>) -> Option<&'a str>
 
 /// The names of the inputs and of the output.
 pub(crate) fn names_of<'a>(given: Given<'a>) -> NamedFiles<'a>
-    ensures { names_lent result ≡ named_by (table_lent given.entry.table.now) (items_in given.entry) }
+    ensures { names_lent result ≡ named_by (table_lent given.entry.table.now) (items_of_words given.entry) }
 {
     let table = given.table;
     NamedFiles {

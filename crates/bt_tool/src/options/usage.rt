@@ -59,7 +59,7 @@ pub(crate) enum UsageKind {
 
 impl UsageKind {
     ghost use Rattle.std.specs.Prelude.{◌≡◌, ◌≤◌};
-    ghost use Rattle.bt_tool.specs.model.Usage.{names_word, text_of};
+    ghost use Rattle.bt_tool.specs.model.Usage.{names_word, usage_phrase};
     ghost use Rattle.bt_tool.specs.inside.UsageKinds.{number_of};
 
     fn numbered(number: u8) -> UsageKind
@@ -89,7 +89,7 @@ impl UsageKind {
     }
 
     fn text(self) -> &'static str
-        ensures { result.now ≡ text_of (number_of self) }
+        ensures { result.now ≡ usage_phrase (number_of self) }
     {
         match self {
             UsageKind::NoCommand => "no or unknown command",

@@ -7,7 +7,7 @@ ghost use Rattle.bt_tool.specs.model.Table.{character_of, is_printable, table_of
 ghost use Rattle.bt_tool.specs.calls.Lent.{table_lent};
 ghost use Rattle.bt_tool.specs.calls.Limits.{is_limit, is_shown_as, is_within_limits};
 ghost use Rattle.bt_tool.specs.model.Fraction.{fraction_of, one_in_billionths};
-ghost use Rattle.bt_tool.specs.calls.Given.{items_in};
+ghost use Rattle.bt_tool.specs.calls.Given.{items_of_words};
 ghost use Rattle.bt_tool.specs.model.Options.{command_by, command_of, denoted, fault_together, hit_shape, mask_how_by, options, plan_of, rule_by, shape_by, strand_by};
 ghost use Rattle.bt_tool.specs.calls.Plan.{plan_seen, words_seen, CanBeTold, IsRefusalOf};
 ghost use Rattle.bt_tool.specs.calls.CommandLine.{ReportsAnswer, ReportsRefusal};
@@ -43,7 +43,7 @@ fn named_tool(words: &[String]) -> Result<Tool, Usage>
 
 // What the options ask the tool for.
 fn command(tool: Tool, given: Given<'_>) -> Command
-    ensures asked { result ≡ command_by tool (items_in given.entry) }
+    ensures asked { result ≡ command_by tool (items_of_words given.entry) }
     ensures limits { IsTrue (is_within_limits result) }
 {
     match tool {
@@ -103,7 +103,7 @@ fn limit_of(value: Option<&str>) -> Option<u64>
 
 // What makes a hit; `both` requires the fraction of both records.
 fn rule_of(given: Given<'_>, both: bool) -> HitRule
-    ensures rule { result ≡ rule_by (items_in given.entry) both }
+    ensures rule { result ≡ rule_by (items_of_words given.entry) both }
     ensures limit { result.billionths ≤ one_in_billionths }
 {
     HitRule {
@@ -153,7 +153,7 @@ fn counted_strand(value: Option<&str>) -> Option<Strand>
 
 // What stands for a masked base.
 fn mask_how_of(given: Given<'_>) -> MaskHow
-    ensures how { result ≡ mask_how_by (items_in given.entry) }
+    ensures how { result ≡ mask_how_by (items_of_words given.entry) }
     ensures limit { IsTrue (is_shown_as result) }
 {
     if given.has("-soft") {
@@ -175,7 +175,7 @@ fn mask_character(value: Option<&str>) -> u8
 
 // The shape of what intersect writes.
 fn shape_of(given: Given<'_>) -> Shape
-    ensures { result ≡ shape_by (items_in given.entry) }
+    ensures { result ≡ shape_by (items_of_words given.entry) }
 {
     if given.has("-u") {
         return Shape::Once;
@@ -218,8 +218,8 @@ fn copied(alloc: Global, name: Option<&str>) -> Result<Option<String>, AllocErro
 // the contracts of std don't say when an allocation fails.
 fn made(alloc: Global, tool: Tool, given: Given<'_>) -> Result<Plan, AllocError>
     requires table { table_lent given.table.now ≡ table_of tool }
-    requires whole { fault_together (table_of tool) (items_in given) ≡ None }
-    ensures { IfOk result (λ plan. plan_seen plan ≡ plan_of tool (items_in given.entry)) }
+    requires whole { fault_together (table_of tool) (items_of_words given) ≡ None }
+    ensures { IfOk result (λ plan. plan_seen plan ≡ plan_of tool (items_of_words given.entry)) }
 {
     let names = names_of(given);
     let genome = copied(alloc, names.genome)?;

@@ -10,7 +10,7 @@ ghost use Rattle.bt_lines.specs.calls.Output.{HoldsBlock};
 ghost use Rattle.bt_bed.specs.calls.GenomeTable.{entries, names_of};
 ghost use Rattle.bt_bed.specs.calls.Orders.{AreDistinct};
 ghost use Rattle.bt_sweep.specs.model.Lines.{subtract_shape};
-ghost use Rattle.bt_tool.specs.model.Report.{behaviour_of, entries_in, of_intersect, of_maskfasta, of_records, order_of};
+ghost use Rattle.bt_tool.specs.model.Report.{behaviour_of, entries_in, of_intersect, of_maskfasta, of_records, order_in_use};
 ghost use Rattle.bt_tool.specs.calls.Inputs.{OfBoth};
 ghost use Rattle.bt_tool.specs.calls.Run.{ReadsChromosomes, Runs, AnswersNoRead, IsOwnFailure, IsOwnFailureIf, ReadsServe, TellsNoRead, TellsOwnReads, RunsAlone, RunsBy};
 ghost use Rattle.bt_tool.specs.calls.Limits.{is_within_limits, IsNamedBy};
@@ -240,7 +240,7 @@ fn merge<A: Source, K: Sink>(
     requires limit { gap ≤ max_number }
     requires block { HoldsBlock out.old.output.took out.old.output.put }
     ensures { RunsAlone A.Source
-        (of_records (order_of (chromosomes_in setup.now)) (merge_written (order_of (chromosomes_in setup.now)) gap strand))
+        (of_records (order_in_use (chromosomes_in setup.now)) (merge_written (order_in_use (chromosomes_in setup.now)) gap strand))
         first out.old.output (option_map fault_value result.0) result.1 out.new.output }
 {
     let engine = Merge::new(setup.alloc, gap, strand);
@@ -261,7 +261,7 @@ fn complement<A: Source, K: Sink>(
     requires distinct { IfSome setup.now.genome.now (λ table. AreDistinct (names_of table)) }
     requires block { HoldsBlock out.old.output.took out.old.output.put }
     ensures { RunsAlone A.Source
-        (of_records (order_of (chromosomes_in setup.now)) (complement_written (entries_in (chromosomes_in setup.now)) limit))
+        (of_records (order_in_use (chromosomes_in setup.now)) (complement_written (entries_in (chromosomes_in setup.now)) limit))
         first out.old.output (option_map fault_value result.0) result.1 out.new.output }
 {
     let Some(genome) = setup.genome else {
@@ -283,7 +283,7 @@ fn cover<A: Source, K: Sink>(
     requires distinct { IfSome setup.now.genome.now (λ table. AreDistinct (names_of table)) }
     requires block { HoldsBlock out.old.output.took out.old.output.put }
     ensures { RunsAlone A.Source
-        (of_records (order_of (chromosomes_in setup.now)) (coverage_written (entries_in (chromosomes_in setup.now)) zeros strand))
+        (of_records (order_in_use (chromosomes_in setup.now)) (coverage_written (entries_in (chromosomes_in setup.now)) zeros strand))
         first out.old.output (option_map fault_value result.0) result.1 out.new.output }
 {
     let Some(genome) = setup.genome else {
@@ -311,7 +311,7 @@ fn sweep_both<A: Source, B: Source, K: Sink>(
     requires second { IsSome sources.second }
     requires block { HoldsBlock out.old.output.took out.old.output.put }
     ensures runs { RunsBy A.Source B.Source
-        (of_intersect (order_of (chromosomes_in setup.now)) config.shape config.rule config.limit)
+        (of_intersect (order_in_use (chromosomes_in setup.now)) config.shape config.rule config.limit)
         sources.first sources.second out.old.output (option_map fault_value result.0) result.1.first result.1.second out.new.output }
     ensures second { is_some result.1.second ≡ is_some sources.second }
 {

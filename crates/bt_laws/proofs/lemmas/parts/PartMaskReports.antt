@@ -11,7 +11,7 @@ use Rattle.bt_bed.specs.model.Meeting.{Rule, written}
 use Rattle.bt_seq.proofs.lemmas.definitions.KnowsLemmas.{leave, leave_all}
 use Rattle.bt_seq.proofs.lemmas.definitions.MaskPrefixLemmas.{none_leaves, decided_by_tags, unnamed_own}
 use Rattle.bt_seq.proofs.lemmas.Sam.{last_from, tag_decides, tags_of}
-use Rattle.bt_seq.specs.model.Masked.{masked_line, names_of, decided, is_unnamed, mask_rule, SequenceLine, sequence_format, bases_up_to}
+use Rattle.bt_seq.specs.model.Masked.{masked_line, names_of_sequences, line_decided, is_unnamed, mask_rule, SequenceLine, sequence_format, bases_up_to}
 use Rattle.bt_seq.specs.declared.mask.mask_how.MaskHow.{MaskHow}
 use Rattle.bt_laws.specs.Parts.{BelongsToNone, MasksNone, begins_sequence, sequence_names, StandsBefore, said_records, Texts}
 use Rattle.bt_tool.specs.model.Written.{Report}
@@ -55,7 +55,7 @@ module _ (how : MaskHow) (full : Bool) where
 
   -- the names, and the records
   abbrev pub N : List ℕ → List (List ℕ)
-  N text = names_of (items_in (F text))
+  N text = names_of_sequences (items_in (F text))
 
   abbrev pub R : List ℕ → List Feature
   R text = items_in (B text)
@@ -102,7 +102,7 @@ module _ (how : MaskHow) (full : Bool) where
     lines_of_both e = grind (arith, (fasta_both full First one.first two.first are.first are.begins))
 
     pub names_of_both : (F one.first).fault ≡ None → N (one.first ++ two.first) ≡ N one.first ++ N two.first
-    names_of_both e = ap names_of (lines_of_both e).0 ∙ names_both full First (items_in (F one.first)) (items_in (F two.first))
+    names_of_both e = ap names_of_sequences (lines_of_both e).0 ∙ names_both full First (items_in (F one.first)) (items_in (F two.first))
 
     named_two : AllByRecursion (λ line. is_unnamed line.names ≡ false) (items_in (F two.first))
     named_two = second_named full First one.first two.first are.first are.begins
@@ -133,7 +133,7 @@ module _ (how : MaskHow) (full : Bool) where
 
           each : (line : SequenceLine) → is_unnamed line.names ≡ false → (mask_rule how names second).decided (line_after (N one.first) line) ≡ false
           each line u =
-              ap₂ (λ f records. is_none f || decided (line_after (N one.first) line) records) e same
+              ap₂ (λ f records. is_none f || line_decided (line_after (N one.first) line) records) e same
               ∙ decided_by_tags (line_after (N one.first) line) (R one.second) ∙ by_names line line.names refl u
 
       -- a record of it is at fault
@@ -209,7 +209,7 @@ module _ (how : MaskHow) (full : Bool) where
             same : (line : SequenceLine) → is_unnamed line.names ≡ false → (W.decided (line_after (N one.first) line) ≡ (rule_on two).decided line) × (W.lines (line_after (N one.first) line) ≡ (rule_on two).lines line)
             same line u = (
               ap₂ (λ a b. a || b) joint.1
-                  (ap (decided (line_after (N one.first) line)) joint.0 ∙ decided_by_tags (line_after (N one.first) line) (R one.second ++ R two.second) ∙ by_names line line.names refl u ∙ sym (decided_by_tags line (R two.second))),
+                  (ap (line_decided (line_after (N one.first) line)) joint.0 ∙ decided_by_tags (line_after (N one.first) line) (R one.second ++ R two.second) ∙ by_names line line.names refl u ∙ sym (decided_by_tags line (R two.second))),
               ap (λ records. masked_line how records (line_after (N one.first) line)) joint.0 ∙ line_second how (N one.first) rest (R one.second) (R two.second) kept lost line u,
             )
 
@@ -223,7 +223,7 @@ module _ (how : MaskHow) (full : Bool) where
           ap (λ l. (report_on one).output ++ l)
               (met_lines (rule_on two) (items_in (F two.first)) (F two.first).fault
               ∙ none_written (rule_on two) (items_in (F two.first))
-              (all_so _ _ (items_in (F two.first)) (λ line u. ap₂ (λ a b. a || b) (ap is_none e) (ap (decided line) is ∙ ap (λ b. b || false) u)) named_two))
+              (all_so _ _ (items_in (F two.first)) (λ line u. ap₂ (λ a b. a || b) (ap is_none e) (ap (line_decided line) is ∙ ap (λ b. b || false) u)) named_two))
               ∙ append-nil (report_on one).output ∙ sym first_lines ∙ front_of.1
               ∙ ap (λ l. l ++ front_of.0) (sym
               (whole_written

@@ -12,7 +12,7 @@ use Rattle.bt_bed.proofs.lemmas.Definitions.{met_fault_all}
 use Rattle.bt_seq.proofs.lemmas.definitions.KnowsLemmas.{leave, leave_all}
 use Rattle.bt_laws.proofs.lemmas.single.Sequences.{faultless_masked, all_decided}
 use Rattle.bt_seq.proofs.lemmas.definitions.MaskPrefixLemmas.{first_is_told, lack_none, items}
-use Rattle.bt_seq.specs.model.Masked.{is_unnamed, mask_met, mask_rule, masked_line, names_of, no_sequence, SequenceLine, sequence_format}
+use Rattle.bt_seq.specs.model.Masked.{is_unnamed, mask_met, mask_rule, masked_line, names_of_sequences, no_sequence, SequenceLine, sequence_format}
 use Rattle.bt_seq.specs.declared.mask.mask_how.MaskHow.{MaskHow}
 use Rattle.bt_tool.specs.model.Written.{Report, met_report}
 use Rattle.bt_tool.specs.model.Report.{report_of}
@@ -91,19 +91,19 @@ none_owned names ms e = grind (arith, (leave (Some names) None (items ms)), told
 pub record IsSound (first : Good SequenceLine) (second : Good Feature) : Type 0 where
   pub lines : first.fault ≡ None
   pub records : second.fault ≡ None
-  pub owned : is_some (leave (Some (names_of (items_in first))) None (items_in second)) ≡ true
+  pub owned : is_some (leave (Some (names_of_sequences (items_in first))) None (items_in second)) ≡ true
 
 module _ (how : MaskHow) (first : Good SequenceLine) (second : Good Feature) where
   pub report_sound : (mask_good how first second).fault ≡ None → IsSound first second
   report_sound e =
-      let all = sound_by how (names_of (items_in first)) (items_in first) first.fault second.members second.fault e in
-      record { lines = all.0; records = all.1; owned = none_owned (names_of (items_in first)) second.members all.2 }
+      let all = sound_by how (names_of_sequences (items_in first)) (items_in first) first.fault second.members second.fault e in
+      record { lines = all.0; records = all.1; owned = none_owned (names_of_sequences (items_in first)) second.members all.2 }
 
   pub sound_report : IsSound first second → (mask_good how first second).fault ≡ None
-  sound_report s = none_by how (names_of (items_in first)) (items_in first) first.fault second.members second.fault s.lines s.records (owned_none (names_of (items_in first)) second.members s.owned)
+  sound_report s = none_by how (names_of_sequences (items_in first)) (items_in first) first.fault second.members second.fault s.lines s.records (owned_none (names_of_sequences (items_in first)) second.members s.owned)
 
   pub sound_output : second.fault ≡ None → (mask_good how first second).output ≡ flat_map (masked_line how (items_in second)) (items_in first)
-  sound_output e = faultless_masked how (names_of (items_in first)) (items_in first) first.fault second e
+  sound_output e = faultless_masked how (names_of_sequences (items_in first)) (items_in first) first.fault second e
 
 -- ---- masked lines of both parts
 

@@ -7,7 +7,7 @@ use Rattle.bt_bed.specs.model.Sorted.{has_records}
 use Rattle.bt_bed.specs.model.Order.{Order}
 use Rattle.bt_bed.proofs.lemmas.order.OrderLemmas.{placed_contiguous}
 use Rattle.bt_runs.specs.model.Merged.{counted, is_counted, chromosomes, merged, runs_of, runs_on, is_closed, merged_runs, passed_by, ordered_runs, StrandRun, begun_by, is_in, listed_behind, places_of, runs_of_strand, settled_strand_runs, strand_runs}
-use Rattle.bt_runs.specs.calls.MergedRuns.{AreTaken, settled_runs, kept_strand_runs}
+use Rattle.bt_runs.specs.calls.MergedRuns.{AreMergeable, settled_runs, kept_strand_runs}
 use Rattle.bt_runs.specs.declared.merge.merge_strand.MergeStrand.{MergeStrand}
 use Rattle.bt_runs.proofs.lemmas.order.FileOrder.{among_chromosomes, without_absent, ordered_come}
 use Rattle.bt_runs.proofs.lemmas.definitions.Standing.{placed_elsewhere, counted-append, passed_elsewhere}
@@ -74,10 +74,10 @@ module _ (gap : ℕ) where
     unfolding settled_runs
     settled_is records = refl
 
-    begins : (ones : List Feature) → AreTaken ones → (rest : List Interval) × (merged_runs gap strand ones ≡ passed_by gap (merged_runs gap strand ones) (last_of (intervals_of ones)) ++ rest)
-    begins ones taken = grind (arith, (runs_begin gap strand ones [] (subst AreTaken (sym (append-nil ones)) taken)), (append-nil ones), (settled_is ones))
+    begins : (ones : List Feature) → AreMergeable ones → (rest : List Interval) × (merged_runs gap strand ones ≡ passed_by gap (merged_runs gap strand ones) (last_of (intervals_of ones)) ++ rest)
+    begins ones taken = grind (arith, (runs_begin gap strand ones [] (subst AreMergeable (sym (append-nil ones)) taken)), (append-nil ones), (settled_is ones))
 
-    begin_by : (ones twos : List Feature) → AreTaken ones → Away (intervals_of ones) (intervals_of twos)
+    begin_by : (ones twos : List Feature) → AreMergeable ones → Away (intervals_of ones) (intervals_of twos)
         → (rest : List ℕ) × (interval_lines (merged_runs gap strand ones) ++ interval_lines (passed_by gap (merged_runs gap strand twos) (last_of (intervals_of twos)))
         ≡ interval_lines (passed_by gap (merged_runs gap strand (ones ++ twos)) (last_of (intervals_of (ones ++ twos)))) ++ rest)
     begin_by ones [] taken away = grind (arith, (begins ones taken), (append-nil (interval_lines (merged_runs gap strand ones))), flat_map-append, (append-nil ones))

@@ -6,7 +6,7 @@ use Rattle.bt_lines.specs.declared.fault.Input.{Input}
 use Rattle.bt_lines.specs.declared.fault.Kind.TheVariants.{TextBeforeHeader}
 use Rattle.bt_lines.proofs.lemmas.reader.lines.TextLemmas.{lines_from-fed, lines_from-last, by_lines}
 use Rattle.bt_bed.specs.model.Good.{Format, Good, good, good_from, items_in, line_says as record_says, locus_at, block_format, bed_format}
-use Rattle.bt_seq.specs.model.Masked.{is_unnamed, names_of, Reached, SequenceLine, header_behind, is_header, line_behind, line_says, may_stand, sequence_format}
+use Rattle.bt_seq.specs.model.Masked.{is_unnamed, names_of_sequences, Reached, SequenceLine, header_behind, is_sequence_header, line_behind, line_says, may_stand, sequence_format}
 use Rattle.bt_laws.specs.Parts.{begins_sequence, name_on, sequence_names, StandsBefore, said_records}
 use Rattle.bt_laws.proofs.lemmas.parts.PartLines.{like_from, alike_lines, lines_join, IsLike, put_on, reached, go_from}
 use Rattle.bt_bed.specs.model.Feature.{Feature}
@@ -37,7 +37,7 @@ pub record AreMoved (names : List (List ℕ)) (g h : Good SequenceLine) : Type 0
 -- the first line, if there is one, is a header
 abbrev pub BeginsAtHeader : List TextLine → Type 0
 BeginsAtHeader [] = ⊤
-BeginsAtHeader (line ∷ lines) = is_header line.text ≡ true
+BeginsAtHeader (line ∷ lines) = is_sequence_header line.text ≡ true
 
 pub named_more : (names more : List (List ℕ)) → is_unnamed more ≡ false → is_unnamed (names ++ more) ≡ false
 named_more [] more e = e
@@ -47,10 +47,10 @@ module _ (full : Bool) (input : Input) where
   abbrev Fasta : Format SequenceLine Reached
   Fasta = sequence_format full
 
-  says_header : (s : Reached) (line : TextLine) → is_header line.text ≡ true → line_says full s line ≡ Ok (Some (header_behind full s line))
+  says_header : (s : Reached) (line : TextLine) → is_sequence_header line.text ≡ true → line_says full s line ≡ Ok (Some (header_behind full s line))
   says_header s line e = grind (arith, cond, (cond (may_stand s.names line.text) (Ok (Some (line_behind s line))) (Err TextBeforeHeader)))
 
-  says_bases : (s : Reached) (line : TextLine) → is_header line.text ≡ false → is_unnamed s.names ≡ false → line_says full s line ≡ Ok (Some (line_behind s line))
+  says_bases : (s : Reached) (line : TextLine) → is_sequence_header line.text ≡ false → is_unnamed s.names ≡ false → line_says full s line ≡ Ok (Some (line_behind s line))
   says_bases s line e named = grind arith
 
   moved_from : (names : List (List ℕ)) (s : Reached) (ls : List TextLine) → is_unnamed s.names ≡ false → AreMoved names (good_from Fasta input (reached_after names s) ls) (good_from Fasta input s ls)
@@ -73,11 +73,11 @@ module _ (full : Bool) (input : Input) where
 
   -- ---- names
 
-  pub reached_names : (s : Reached) (x : SequenceLine) (xs : List SequenceLine) → (reached Fasta s (x ∷ xs)).names ≡ names_of (x ∷ xs)
+  pub reached_names : (s : Reached) (x : SequenceLine) (xs : List SequenceLine) → (reached Fasta s (x ∷ xs)).names ≡ names_of_sequences (x ∷ xs)
   reached_names s x [] = refl
   reached_names s x (y ∷ ys) = reached_names (Fasta.after s x) y ys
 
-  begin_names : (xs : List SequenceLine) → (reached Fasta Fasta.begin xs).names ≡ names_of xs
+  begin_names : (xs : List SequenceLine) → (reached Fasta Fasta.begin xs).names ≡ names_of_sequences xs
   begin_names [] = refl
   begin_names (x ∷ xs) = reached_names Fasta.begin x xs
 
@@ -89,7 +89,7 @@ module _ (full : Bool) (input : Input) where
   grown_from s (l ∷ ls) none = grind (arith, append_assoc, (λ (now : Reached). grown_from now ls))
 
   -- without a fault the names are those of the headers
-  pub names_grown : (text : List ℕ) → (good Fasta input (text_lines text)).fault ≡ None → names_of (items_in (good Fasta input (text_lines text))) ≡ sequence_names full text
+  pub names_grown : (text : List ℕ) → (good Fasta input (text_lines text)).fault ≡ None → names_of_sequences (items_in (good Fasta input (text_lines text))) ≡ sequence_names full text
   names_grown text none = sym (begin_names (items_in (good Fasta input (text_lines text)))) ∙ grown_from Fasta.begin (text_lines text) none
 
   -- each line's names begin those of all
@@ -106,22 +106,22 @@ module _ (full : Bool) (input : Input) where
   grows_from s [] = record { more = []; is = sym (append-nil s.names); all = tt }
   grows_from s (l ∷ ls) = grind (arith, append-nil, append_assoc, (λ (now : Reached). grows_from now ls))
 
-  pub names_begin : (ls : List TextLine) → AllByRecursion (Begins (names_of (items_in (good Fasta input ls)))) (items_in (good Fasta input ls))
+  pub names_begin : (ls : List TextLine) → AllByRecursion (Begins (names_of_sequences (items_in (good Fasta input ls)))) (items_in (good Fasta input ls))
   names_begin ls = grind (arith, (begin_names (items_in (good Fasta input ls))), (grows_from Fasta.begin ls))
 
   -- the names of two parts
-  names_moved : (names : List (List ℕ)) (y : SequenceLine) (ys : List SequenceLine) → names_of (map (line_after names) (y ∷ ys)) ≡ names ++ names_of (y ∷ ys)
+  names_moved : (names : List (List ℕ)) (y : SequenceLine) (ys : List SequenceLine) → names_of_sequences (map (line_after names) (y ∷ ys)) ≡ names ++ names_of_sequences (y ∷ ys)
   names_moved names y [] = refl
   names_moved names y (z ∷ zs) = names_moved names z zs
 
-  last_names : (xs : List SequenceLine) (y : SequenceLine) (ys : List SequenceLine) → names_of (xs ++ y ∷ ys) ≡ names_of (y ∷ ys)
+  last_names : (xs : List SequenceLine) (y : SequenceLine) (ys : List SequenceLine) → names_of_sequences (xs ++ y ∷ ys) ≡ names_of_sequences (y ∷ ys)
   last_names [] y ys = refl
   last_names (x ∷ []) y ys = refl
   last_names (x ∷ z ∷ zs) y ys = last_names (z ∷ zs) y ys
 
-  pub names_both : (xs ys : List SequenceLine) → names_of (xs ++ map (line_after (names_of xs)) ys) ≡ names_of xs ++ names_of ys
-  names_both xs [] = ap names_of (append-nil xs) ∙ sym (append-nil (names_of xs))
-  names_both xs (y ∷ ys) = last_names xs (line_after (names_of xs) y) (map (line_after (names_of xs)) ys) ∙ names_moved (names_of xs) y ys
+  pub names_both : (xs ys : List SequenceLine) → names_of_sequences (xs ++ map (line_after (names_of_sequences xs)) ys) ≡ names_of_sequences xs ++ names_of_sequences ys
+  names_both xs [] = ap names_of_sequences (append-nil xs) ∙ sym (append-nil (names_of_sequences xs))
+  names_both xs (y ∷ ys) = last_names xs (line_after (names_of_sequences xs) y) (map (line_after (names_of_sequences xs)) ys) ∙ names_moved (names_of_sequences xs) y ys
 
   -- ---- two texts
 
@@ -141,7 +141,7 @@ module _ (full : Bool) (input : Input) where
   -- what is good of both texts: the first is at fault, or the lines of the second come after its sequences
   abbrev pub AreBothBy : Option FaultValue → Good SequenceLine → Good SequenceLine → Good SequenceLine → Type 0
   AreBothBy None one two whole =
-      (items_in whole ≡ items_in one ++ map (line_after (names_of (items_in one))) (items_in two)) × (whole.fault ≡ None)
+      (items_in whole ≡ items_in one ++ map (line_after (names_of_sequences (items_in one))) (items_in two)) × (whole.fault ≡ None)
   AreBothBy (Some fault) one two whole = whole ≡ one
 
   module _ (one two : List ℕ) (ends : StandsBefore one two) (begins : IsTrue (begins_sequence two)) where

@@ -11,7 +11,7 @@ use Rattle.bt_bed.specs.model.Sorted.{has_records, sorting_of}
 use Rattle.bt_bed.proofs.lemmas.parse.NameLemmas.{name_eq, name_ne}
 use Rattle.bt_bed.proofs.lemmas.order.OrderLemmas.{among_ranked}
 use Rattle.bt_runs.specs.model.Gaps.{is_over_at, complement, gaps_on, is_asked, settled_gaps}
-use Rattle.bt_runs.specs.calls.Complementing.{AreTaken}
+use Rattle.bt_runs.specs.calls.Complementing.{AreInGenomeOrder}
 use Rattle.bt_tool.specs.model.Written.{Written, complement_written, coverage_written, merge_written, pooled_written, Report, good_report, members_report}
 use Rattle.bt_laws.proofs.lemmas.parts.PartGenomes.{agree_first, agree_second, apart_both, entry_less, names_both, among_append, no_first, agree_good, records_both, within_before, last_behind, last_is, none_has, has_append, records_away, spans_first, spans_second}
 use Rattle.bt_runs.proofs.lemmas.Lists.{all_flat_map, all_so, filter_all, filter_none, filter_same, flat_map_same, all_any, all_both, all_map, map_same, all_unmap, all_zip}
@@ -164,7 +164,7 @@ pub record OwnParts (e_one e_two : List Entry) (ones twos : List Feature) : Type
   pub distinct : AreDistinct (genome_names (e_one ++ e_two))
   pub in_one : AllByRecursion (λ r. is_among (genome_names e_one) r.chrom ≡ true) (intervals_of ones)
   pub in_two : AllByRecursion (λ r. is_among (genome_names e_two) r.chrom ≡ true) (intervals_of twos)
-  pub taken : AreTaken e_one ones
+  pub taken : AreInGenomeOrder e_one ones
   pub placed : ArePlaced (rank_order (genome_names e_two)) (intervals_of twos)
   pub first_placed : ArePlaced (rank_order (genome_names (e_one ++ e_two))) (intervals_of ones)
   pub second_placed : ArePlaced (rank_order (genome_names (e_one ++ e_two))) (intervals_of twos)
@@ -200,7 +200,7 @@ module _ (limit : Bool) where
   unfolding gaps_here
   gaps_second ones twos e none = grind (arith, map-append, has_append, spans_second)
 
-  gaps_begin : (entries : List Entry) (ones : List Feature) → AreTaken entries ones → (rest : List Interval) × (whole_of gap_chrom gap_ends interval_line gaps_here entries ones ≡ settled_of gap_chrom gap_ends interval_line gaps_here entries ones ++ rest)
+  gaps_begin : (entries : List Entry) (ones : List Feature) → AreInGenomeOrder entries ones → (rest : List Interval) × (whole_of gap_chrom gap_ends interval_line gaps_here entries ones ≡ settled_of gap_chrom gap_ends interval_line gaps_here entries ones ++ rest)
   gaps_begin entries ones taken = grind (arith, (settles_gaps limit entries), (complement_is entries ones), (gaps_settled entries ones))
 
   pub gaps_split : (e_one e_two : List Entry) (ones twos : List Feature) → OwnParts e_one e_two ones twos → Splits (complement_written e_one limit) (complement_written e_two limit) (complement_written (e_one ++ e_two) limit) ones twos
@@ -245,7 +245,7 @@ module _ (zeros : Bool) (strand : Option Strand) where
   depths_second : (ones twos : List Feature) (e : Entry) → has_records e.name (intervals_of ones) ≡ false → depths_here (ones ++ twos) e ≡ depths_here twos e
   depths_second ones twos e none = grind (arith, counted_both, spans_second, fewer)
 
-  depths_begin : (entries : List Entry) (ones : List Feature) → AreTaken entries ones → (rest : List DepthInterval) × (whole_of depth_chrom depth_ends depth_line depths_here entries ones ≡ settled_of depth_chrom depth_ends depth_line depths_here entries ones ++ rest)
+  depths_begin : (entries : List Entry) (ones : List Feature) → AreInGenomeOrder entries ones → (rest : List DepthInterval) × (whole_of depth_chrom depth_ends depth_line depths_here entries ones ≡ settled_of depth_chrom depth_ends depth_line depths_here entries ones ++ rest)
   depths_begin entries ones taken = grind (arith, (settles_depths zeros strand entries), (coverage_is entries ones), (depths_settled entries ones))
 
   pub depths_split : (e_one e_two : List Entry) (ones twos : List Feature) → OwnParts e_one e_two ones twos → Splits (coverage_written e_one zeros strand) (coverage_written e_two zeros strand) (coverage_written (e_one ++ e_two) zeros strand) ones twos

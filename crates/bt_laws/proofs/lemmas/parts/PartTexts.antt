@@ -6,7 +6,7 @@ use Rattle.bt_bed.specs.model.Good.{Good, good, good_from, items_in, bed_format}
 use Rattle.bt_seq.specs.model.Alignment.{Alignment, alignment_of, sam_format}
 use Rattle.bt_laws.specs.Parts.{AreOfLines, StandsBefore, joined, ComeBefore, said_records, bamtobed_divides, on_text, ArePairs, PairsAscend, Texts, TextsAscend, intersect_divides, joined_texts, merge_divides, on_texts, subtract_divides, PairsAddUp, AreAtHeaders, WritesOn, MaskTheirOwn, NoneMoves, begins_sequence, maskfasta_divides, repeated_names_divide, AddUp, StopWithin, outputs_to_fault}
 use Rattle.bt_tool.specs.model.Written.{Report, Written, good_report, alignments_written, merge_written}
-use Rattle.bt_tool.specs.model.Report.{report_of, chromosomes_of, order_of}
+use Rattle.bt_tool.specs.model.Report.{report_of, chromosomes_of, order_in_use}
 use Rattle.bt_tool.specs.declared.planning.plan_type.Command.TheVariants.{BamToBed, Intersect, Merge, Subtract, MaskFasta}
 use Rattle.bt_laws.proofs.lemmas.parts.PartLines.{good_joint}
 use Rattle.bt_laws.proofs.lemmas.parts.PartReports.{Splits, parts_both, Joins, good_joins, nothing, together, parts_add, stop_more, stop_none, stop_one}
@@ -67,7 +67,7 @@ sam_divides split cigar texts lines =
 
 -- ---- records
 
-pub order_total : (chromosomes : Option (List Entry)) → IsTotal (order_of chromosomes)
+pub order_total : (chromosomes : Option (List Entry)) → IsTotal (order_in_use chromosomes)
 order_total None = bytes_total
 order_total (Some entries) = ranks_total (genome_names entries)
 
@@ -131,15 +131,15 @@ module _ (order : Order) (total : IsTotal order) where
 -- ---- the reports of the commands
 
 module _ (genome : Option Handed) (chromosomes : Option (List Entry)) (has : chromosomes_of genome ≡ Ok chromosomes) where
-  pub merge_is : (d : ℕ) (strand : MergeStrand) (text : List ℕ) → on_text (Merge d strand) genome text ≡ merge_report (order_of chromosomes) (order_total chromosomes) d strand text
+  pub merge_is : (d : ℕ) (strand : MergeStrand) (text : List ℕ) → on_text (Merge d strand) genome text ≡ merge_report (order_in_use chromosomes) (order_total chromosomes) d strand text
   unfolding report_of
   merge_is d strand text = grind arith
 
-  pub intersect_is : (shape : Shape) (rule : HitRule) (texts : Texts) → on_texts (Intersect shape rule None) genome texts ≡ pair_report (order_of chromosomes) (order_total chromosomes) shape rule texts.first texts.second
+  pub intersect_is : (shape : Shape) (rule : HitRule) (texts : Texts) → on_texts (Intersect shape rule None) genome texts ≡ pair_report (order_in_use chromosomes) (order_total chromosomes) shape rule texts.first texts.second
   unfolding report_of
   intersect_is shape rule texts = grind arith
 
-  pub subtract_is : (whole : Bool) (rule : HitRule) (texts : Texts) → on_texts (Subtract whole rule None) genome texts ≡ pair_report (order_of chromosomes) (order_total chromosomes) (subtract_shape whole) rule texts.first texts.second
+  pub subtract_is : (whole : Bool) (rule : HitRule) (texts : Texts) → on_texts (Subtract whole rule None) genome texts ≡ pair_report (order_in_use chromosomes) (order_total chromosomes) (subtract_shape whole) rule texts.first texts.second
   unfolding report_of
   subtract_is whole rule texts = grind arith
 
@@ -169,7 +169,7 @@ module _ (order : Order) (total : IsTotal order) where
 
 pub merge_parts : merge_divides
 merge_parts d strand genome chromosomes texts has lines ascend =
-    let order = order_of chromosomes in
+    let order = order_in_use chromosomes in
     let total = order_total chromosomes in
     let is : (text : List ℕ) → on_text (Merge d strand) genome text ≡ merge_report order total d strand text = merge_is genome chromosomes has d strand in
     parts_both joined (on_text (Merge d strand) genome) (AreFit order) (is [] ∙ merge_empty order total d strand) (λ t. ap (on_text (Merge d strand) genome) (append-nil t)) (fit_less order)
@@ -190,11 +190,11 @@ sweep_parts command shape rule genome order total is parts lines ascend =
 
 pub intersect_parts : intersect_divides
 intersect_parts shape rule genome chromosomes parts has =
-    sweep_parts (Intersect shape rule None) shape rule genome (order_of chromosomes) (order_total chromosomes) (intersect_is genome chromosomes has shape rule) parts
+    sweep_parts (Intersect shape rule None) shape rule genome (order_in_use chromosomes) (order_total chromosomes) (intersect_is genome chromosomes has shape rule) parts
 
 pub subtract_parts : subtract_divides
 subtract_parts whole rule genome chromosomes parts has =
-    sweep_parts (Subtract whole rule None) (subtract_shape whole) rule genome (order_of chromosomes) (order_total chromosomes) (subtract_is genome chromosomes has whole rule) parts
+    sweep_parts (Subtract whole rule None) (subtract_shape whole) rule genome (order_in_use chromosomes) (order_total chromosomes) (subtract_is genome chromosomes has whole rule) parts
 
 -- maskfasta over any number of parts.
 

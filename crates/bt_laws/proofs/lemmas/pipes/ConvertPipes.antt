@@ -11,7 +11,7 @@ use Rattle.bt_bed.specs.model.BedLine.{kept_columns, strand_of}
 use Rattle.bt_bed.specs.calls.Features.{IsName, columns_in}
 use Rattle.bt_bed.specs.declared.record.strand.Strand.TheVariants.{Plus, Minus}
 use Rattle.bt_bed.proofs.lemmas.parse.FeatureLemmas.{kept_is_cut, pieces_are_columns}
-use Rattle.bt_seq.specs.model.Alignment.{Alignment, Fields, alignment_of, columns_say, fields_of, fields_say, value_up_to, bed_lines, read_name, strand_sign, length_of, operations_in, each_operation, parts_of, sam_format}
+use Rattle.bt_seq.specs.model.Alignment.{Alignment, Fields, alignment_of, sam_columns_say, fields_of, fields_say, value_up_to, bed_lines, read_name, strand_sign, cigar_length, operations_in, each_operation, parts_of, sam_format}
 use Rattle.bt_tool.specs.model.Written.{alignment_lines}
 use Rattle.bt_tool.specs.model.Report.{Inputs, report_of}
 use Rattle.bt_tool.specs.declared.planning.plan_type.Command.TheVariants.{BamToBed}
@@ -20,7 +20,7 @@ use Rattle.bt_laws.proofs.lemmas.pipes.LinesBack.{clear_back, clear_both, clear_
 use Rattle.bt_runs.proofs.lemmas.Lists.{all_so}
 use Rattle.bt_lines.specs.declared.reader.line.LineEnd.{LineEnd}
 use Rattle.bt_lines.specs.declared.reader.line.LineEnd.TheVariants.{Absent, Cr, CrLf, Lf}
-use Rattle.bt_seq.specs.model.Masked.{Reached, SequenceLine, is_header, sequence_format}
+use Rattle.bt_seq.specs.model.Masked.{Reached, SequenceLine, is_sequence_header, sequence_format}
 use Rattle.bt_laws.proofs.lemmas.parts.PartLines.{items_so}
 use Rattle.bt_laws.proofs.lemmas.single.Records.{number_column}
 
@@ -50,7 +50,7 @@ record IsPlain (text : List ℕ) : Type 0 where
   some : 0 < length text
   plain : ends_with_byte 13 text ≡ false
 
-plain_cigar : (text : List ℕ) (span : ℕ) → length_of text ≡ Some span → IsPlain text
+plain_cigar : (text : List ℕ) (span : ℕ) → cigar_length text ≡ Some span → IsPlain text
 plain_cigar text span e = grind (arith, common_steps, none_in)
 
 -- ---- an alignment that a line said
@@ -79,14 +79,14 @@ fields_columns : (columns : List (List ℕ)) (fields : Fields) → AllByRecursio
 fields_columns columns fields h k e = grind arith
 
 module _ (fields : Fields) (are : AreColumns fields) where
-  columns_by : (flag : Option ℕ) (chrom : List ℕ) (position quality span : Option ℕ) (a : Alignment) → chrom ≡ fields.chrom → length_of fields.cigar ≡ span → columns_say fields flag chrom position quality span ≡ Ok (Some a) → IsAligned a
+  columns_by : (flag : Option ℕ) (chrom : List ℕ) (position quality span : Option ℕ) (a : Alignment) → chrom ≡ fields.chrom → cigar_length fields.cigar ≡ span → sam_columns_say fields flag chrom position quality span ≡ Ok (Some a) → IsAligned a
   columns_by flag chrom position quality span a e long is = grind (arith, plain_cigar)
 
 said_by : (fields : Option Fields) (a : Alignment) → ((f : Fields) → fields ≡ Some f → AreColumns f) → fields_say fields ≡ Ok (Some a) → IsAligned a
 unfolding fields_say
 said_by None a h e = cc
 said_by (Some fields) a h e =
-    columns_by fields (h fields refl) (value_up_to 65535 fields.flag) fields.chrom (value_up_to 2147483647 fields.position) (value_up_to 255 fields.quality) (length_of fields.cigar) a refl refl e
+    columns_by fields (h fields refl) (value_up_to 65535 fields.flag) fields.chrom (value_up_to 2147483647 fields.position) (value_up_to 255 fields.quality) (cigar_length fields.cigar) a refl refl e
 
 line_aligned : (text : List ℕ) (a : Alignment) → NoLineFeed text → alignment_of text ≡ Ok (Some a) → IsAligned a
 unfolding alignment_of
@@ -184,11 +184,11 @@ with_text line text = record { names = line.names; before = line.before; text = 
 pub record Stands (old new : List ℕ) : Type 0 where
   pub clear : NoLineFeed new
   pub size : length new ≡ length old
-  pub header : is_header new ≡ is_header old
+  pub header : is_sequence_header new ≡ is_sequence_header old
   -- no carriage return ends it, if none ended the other
   pub last : ends_with_byte 13 old ≡ false → ends_with_byte 13 new ≡ false
   -- a header stays
-  pub same : is_header old ≡ true → new ≡ old
+  pub same : is_sequence_header old ≡ true → new ≡ old
 
 -- ---- line ends
 

@@ -9,7 +9,7 @@ use Rattle.bt_bed.specs.model.Levels.{HasValue, Level}
 use Rattle.bt_laws.specs.Runs.{interval_at}
 use Rattle.bt_runs.specs.model.Depth.{DepthInterval, counted_on, coverage, depth_lines, depth_of, depth_on, depths_on, levels_of}
 use Rattle.bt_laws.proofs.lemmas.single.LevelLemmas.{gaps_depth_0, are_levels, only_levels, some_value, value_some, some_disjoint}
-use Rattle.bt_tool.specs.model.Report.{entries_in, order_of}
+use Rattle.bt_tool.specs.model.Report.{entries_in, order_in_use}
 use Rattle.bt_tool.specs.model.Written.{complement_written, coverage_written}
 use Rattle.bt_tool.specs.declared.planning.plan_type.Command.TheVariants.{Complement, Coverage}
 use Rattle.bt_laws.specs.WholeRuns.{first_records}
@@ -60,7 +60,7 @@ pub zero_depths : depth_0_is_complement
 zero_depths inputs chromosomes well =
     let records = first_records chromosomes inputs in
     let entries = entries_in chromosomes in
-    let good = bed_good First (order_of chromosomes) inputs.first in
+    let good = bed_good First (order_in_use chromosomes) inputs.first in
     let other = fault_as (Coverage true None) (Complement false) inputs chromosomes well (told_same (coverage_written entries true None) (complement_written entries false) (items_in good) good.fault) in (
       record { output = genomecov_whole true None inputs chromosomes well; faultless = well.faultless },
       record { output = complement_whole false inputs chromosomes other; faultless = other.faultless },
@@ -71,7 +71,7 @@ pub deep_depths : bg_is_bga_above_0
 deep_depths strand inputs chromosomes well =
     let records = first_records chromosomes inputs in
     let entries = entries_in chromosomes in
-    let good = bed_good First (order_of chromosomes) inputs.first in
+    let good = bed_good First (order_in_use chromosomes) inputs.first in
     let other = fault_as (Coverage true strand) (Coverage false strand) inputs chromosomes well (told_same (coverage_written entries true strand) (coverage_written entries false strand) (items_in good) good.fault) in (
       record { output = genomecov_whole true strand inputs chromosomes well; faultless = well.faultless },
       record { output = genomecov_whole false strand inputs chromosomes other ∙ ap depth_lines (deep_coverage strand entries records); faultless = other.faultless },

@@ -27,7 +27,7 @@ use Rattle.bt_sweep.specs.declared.hits.hit_rule.HitRule.{HitRule}
 use Rattle.bt_sweep.specs.declared.output.shape.Shape.{Shape}
 use Rattle.bt_sweep.specs.declared.output.shape.Shape.TheVariants.{Pieces, Whole}
 use Rattle.bt_sweep.proofs.lemmas.definitions.HitLemmas.{faultless_all}
-use Rattle.bt_tool.specs.model.Report.{behaviour_of, entries_in, order_of, Inputs, or_empty, chromosomes_of, report_of, report_on}
+use Rattle.bt_tool.specs.model.Report.{behaviour_of, entries_in, order_in_use, Inputs, or_empty, chromosomes_of, report_of, report_on}
 use Rattle.bt_tool.specs.model.Written.{Report, report_by, met_within, Written, merge_written}
 use Rattle.bt_tool.specs.declared.planning.plan_type.Command.{Command}
 use Rattle.bt_tool.specs.declared.planning.plan_type.Command.TheVariants.{Complement, Coverage, Intersect, Merge, Subtract}
@@ -69,12 +69,12 @@ module _ (command : Command) (inputs : Inputs) (chromosomes : Option (List Entry
 -- ---- merge
 
 pub merge_whole : (d : ℕ) (strand : MergeStrand) (inputs : Inputs) (chromosomes : Option (List Entry)) → RunsWithoutFault (Merge d strand) inputs chromosomes
-    → (report_of (Merge d strand) inputs).output ≡ (merge_written (order_of chromosomes) d strand).whole (first_records chromosomes inputs)
+    → (report_of (Merge d strand) inputs).output ≡ (merge_written (order_in_use chromosomes) d strand).whole (first_records chromosomes inputs)
 merge_whole d strand inputs chromosomes well = grind (arith, (output_is (Merge d strand) inputs chromosomes well), whole_by, (well_there (Merge d strand) inputs chromosomes well))
 
 module _ (d : ℕ) (inputs : Inputs) (chromosomes : Option (List Entry)) where
   abbrev order_used : Order
-  order_used = order_of chromosomes
+  order_used = order_in_use chromosomes
 
   abbrev merged_records : List Feature
   merged_records = first_records chromosomes inputs
@@ -108,7 +108,7 @@ module _ (limit : Bool) (inputs : Inputs) (chromosomes : Option (List Entry)) (w
   complement_whole = grind (arith, (output_is (Complement limit) inputs chromosomes well), (well_there (Complement limit) inputs chromosomes well))
 
 gaps_input : (limit : Bool) (genome : Option Handed) (chromosomes : Option (List Entry)) (records : List Feature) → chromosomes_of genome ≡ Ok chromosomes
-    → IsInput (order_of chromosomes) (interval_lines (complement limit (entries_in chromosomes) records)) (filter is_no_header (map three_columns (complement limit (entries_in chromosomes) records)))
+    → IsInput (order_in_use chromosomes) (interval_lines (complement limit (entries_in chromosomes) records)) (filter is_no_header (map three_columns (complement limit (entries_in chromosomes) records)))
     × EachPair AreSeparate (complement limit (entries_in chromosomes) records)
 unfolding complement
 gaps_input limit genome None records e = (intervals_back byte_order bytes_total [] tt tt, tt)
@@ -121,7 +121,7 @@ complement_input limit inputs chromosomes well =
     grind (arith, (pairs_all AreSeparate (complement limit (entries_in chromosomes) (first_records chromosomes inputs)) is.1))
 
 depths_input : (zeros : Bool) (strand : Option Strand) (genome : Option Handed) (chromosomes : Option (List Entry)) (records : List Feature) → chromosomes_of genome ≡ Ok chromosomes
-    → IsInput (order_of chromosomes) (depth_lines (coverage zeros strand (entries_in chromosomes) records)) (filter is_no_header (map four_columns (coverage zeros strand (entries_in chromosomes) records)))
+    → IsInput (order_in_use chromosomes) (depth_lines (coverage zeros strand (entries_in chromosomes) records)) (filter is_no_header (map four_columns (coverage zeros strand (entries_in chromosomes) records)))
     × EachPair AreDisjoint (map interval_at (coverage zeros strand (entries_in chromosomes) records))
 unfolding coverage
 depths_input zeros strand genome None records e = (intervals_back byte_order bytes_total [] tt tt, tt)
@@ -136,7 +136,7 @@ genomecov_input zeros strand inputs chromosomes well =
     let depths = coverage zeros strand (entries_in chromosomes) (first_records chromosomes inputs) in
     let e = genomecov_whole zeros strand inputs chromosomes well in
     let is = depths_input zeros strand inputs.genome chromosomes (first_records chromosomes inputs) well.genome in
-    (e, subst (λ text. IsInput (order_of chromosomes) text (filter is_no_header (map four_columns depths))) (sym e) is.0, pairs_all AreDisjoint (map interval_at depths) is.1)
+    (e, subst (λ text. IsInput (order_in_use chromosomes) text (filter is_no_header (map four_columns depths))) (sym e) is.0, pairs_all AreDisjoint (map interval_at depths) is.1)
 
 -- ---- two inputs
 
@@ -161,36 +161,36 @@ module _ (shape : Shape) (rule : HitRule) (chromosomes : Option (List Entry)) (i
   seconds = second_records chromosomes inputs
 
   said : AllByRecursion IsSaid firsts
-  said = good_are_said First (order_of chromosomes) inputs.first
+  said = good_are_said First (order_in_use chromosomes) inputs.first
 
   said_second : AllByRecursion IsSaid seconds
-  said_second = good_are_said Second (order_of chromosomes) (or_empty inputs.second)
+  said_second = good_are_said Second (order_in_use chromosomes) (or_empty inputs.second)
 
-  first_placed : ArePlaced (order_of chromosomes) (intervals_of firsts)
-  first_placed = placed_good First (order_of chromosomes) inputs.first (order_total chromosomes)
+  first_placed : ArePlaced (order_in_use chromosomes) (intervals_of firsts)
+  first_placed = placed_good First (order_in_use chromosomes) inputs.first (order_total chromosomes)
 
-  second_placed : ArePlaced (order_of chromosomes) (intervals_of seconds)
-  second_placed = placed_good Second (order_of chromosomes) (or_empty inputs.second) (order_total chromosomes)
+  second_placed : ArePlaced (order_in_use chromosomes) (intervals_of seconds)
+  second_placed = placed_good Second (order_in_use chromosomes) (or_empty inputs.second) (order_total chromosomes)
 
-  kept_input : begins_with_a shape ≡ true → IsInput (order_of chromosomes) (intersect shape rule firsts seconds) (records_written shape rule firsts seconds)
-  kept_input begins = grind (arith, (all_read shape rule firsts seconds), (kept_back (order_of chromosomes) (order_total chromosomes) shape rule firsts seconds said said_second first_placed begins))
+  kept_input : begins_with_a shape ≡ true → IsInput (order_in_use chromosomes) (intersect shape rule firsts seconds) (records_written shape rule firsts seconds)
+  kept_input begins = grind (arith, (all_read shape rule firsts seconds), (kept_back (order_in_use chromosomes) (order_total chromosomes) shape rule firsts seconds said said_second first_placed begins))
 
-  pub cut_input : begins_with_a shape ≡ false → AllPairs AreDisjoint (intervals_of firsts) → IsInput (order_of chromosomes) (intersect shape rule firsts seconds) (records_written shape rule firsts seconds)
+  pub cut_input : begins_with_a shape ≡ false → AllPairs AreDisjoint (intervals_of firsts) → IsInput (order_in_use chromosomes) (intersect shape rule firsts seconds) (records_written shape rule firsts seconds)
   cut_input cuts apart =
-      subst (IsInput (order_of chromosomes) (intersect shape rule firsts seconds)) (all_read shape rule firsts seconds)
-      (cut_back (order_of chromosomes) (order_total chromosomes) shape rule firsts seconds said said_second first_placed second_placed (pairs_each AreDisjoint (intervals_of firsts) apart) cuts)
+      subst (IsInput (order_in_use chromosomes) (intersect shape rule firsts seconds)) (all_read shape rule firsts seconds)
+      (cut_back (order_in_use chromosomes) (order_total chromosomes) shape rule firsts seconds said said_second first_placed second_placed (pairs_each AreDisjoint (intervals_of firsts) apart) cuts)
 
 pub intersect_whole : (shape : Shape) (rule : HitRule) (held : Option ℕ) (inputs : Inputs) (chromosomes : Option (List Entry)) → RunsWithoutFault (Intersect shape rule held) inputs chromosomes
     → (report_of (Intersect shape rule held) inputs).output ≡ intersect shape rule (first_records chromosomes inputs) (second_records chromosomes inputs)
 intersect_whole shape rule held inputs chromosomes well =
     output_is (Intersect shape rule held) inputs chromosomes well
-    ∙ swept_whole (order_of chromosomes) shape rule held (bed_good First (order_of chromosomes) inputs.first) (bed_good Second (order_of chromosomes) (or_empty inputs.second)) (well_there (Intersect shape rule held) inputs chromosomes well)
+    ∙ swept_whole (order_in_use chromosomes) shape rule held (bed_good First (order_in_use chromosomes) inputs.first) (bed_good Second (order_in_use chromosomes) (or_empty inputs.second)) (well_there (Intersect shape rule held) inputs chromosomes well)
 
 pub subtract_whole : (whole : Bool) (rule : HitRule) (held : Option ℕ) (inputs : Inputs) (chromosomes : Option (List Entry)) → RunsWithoutFault (Subtract whole rule held) inputs chromosomes
     → (report_of (Subtract whole rule held) inputs).output ≡ intersect (subtract_shape whole) rule (first_records chromosomes inputs) (second_records chromosomes inputs)
 subtract_whole whole rule held inputs chromosomes well =
     output_is (Subtract whole rule held) inputs chromosomes well
-    ∙ swept_whole (order_of chromosomes) (subtract_shape whole) rule held (bed_good First (order_of chromosomes) inputs.first) (bed_good Second (order_of chromosomes) (or_empty inputs.second)) (well_there (Subtract whole rule held) inputs chromosomes well)
+    ∙ swept_whole (order_in_use chromosomes) (subtract_shape whole) rule held (bed_good First (order_in_use chromosomes) inputs.first) (bed_good Second (order_in_use chromosomes) (or_empty inputs.second)) (well_there (Subtract whole rule held) inputs chromosomes well)
 
 pub intersect_input : intersect_is_input
 intersect_input shape rule held inputs chromosomes begins well = grind (arith, (intersect_whole shape rule held inputs chromosomes well), (kept_input shape rule chromosomes inputs begins))
@@ -220,9 +220,9 @@ subtract_input rule held inputs chromosomes well apart =
     let firsts = first_records chromosomes inputs in
     let seconds = second_records chromosomes inputs in
     let left = records_written Pieces rule firsts seconds in
-    let back = pieces_back (order_of chromosomes) (order_total chromosomes) rule firsts seconds (said Pieces rule chromosomes inputs) (said_second Pieces rule chromosomes inputs)
+    let back = pieces_back (order_in_use chromosomes) (order_total chromosomes) rule firsts seconds (said Pieces rule chromosomes inputs) (said_second Pieces rule chromosomes inputs)
     (first_placed Pieces rule chromosomes inputs) (second_placed Pieces rule chromosomes inputs) (pairs_each AreDisjoint (intervals_of firsts) apart) in (
-      subst (λ text. IsInput (order_of chromosomes) text left) (sym (subtract_whole false rule held inputs chromosomes well)) (cut_input Pieces rule chromosomes inputs refl apart),
+      subst (λ text. IsInput (order_in_use chromosomes) text left) (sym (subtract_whole false rule held inputs chromosomes well)) (cut_input Pieces rule chromosomes inputs refl apart),
       pairs_all AreDisjoint (intervals_of left) (subst (λ rs. EachPair AreDisjoint (intervals_of rs)) (all_read Pieces rule firsts seconds) back),
     )
 

@@ -7,7 +7,7 @@ use Rattle.bt_bed.specs.model.Sorted.{locus_of}
 use Rattle.bt_bed.specs.calls.Orders.{ArePlaced, IsUpTo, IsTotal, AreDistinct}
 use Rattle.bt_bed.specs.model.Order.{Order, is_among, rank_order}
 use Rattle.bt_bed.proofs.lemmas.parse.NameLemmas.{name_ne-sym}
-use Rattle.bt_laws.specs.Runs.{AreAscending, AreKnown}
+use Rattle.bt_laws.specs.Runs.{AreSortedNames, AreKnown}
 use Rattle.bt_runs.proofs.lemmas.order.FileOrder.{rank_of-here, skips}
 use Rattle.bt_runs.proofs.lemmas.Lists.{EachPair, all_any, all_both, all_filter, all_flat_map, all_map, all_so, all_unmap, all_zip}
 
@@ -67,7 +67,7 @@ module _ (order : Order) where
   later_all total n m (k ∷ ns) known mid knowns less later =
       (total.ascends n m k known mid knowns.0 less later.0, later_all total n m ns known mid knowns.1 less later.1)
 
-  pub ascending_pairs : IsTotal order → (names : List (List ℕ)) → AreKnown order names → AreAscending order names → EachPair Earlier names
+  pub ascending_pairs : IsTotal order → (names : List (List ℕ)) → AreKnown order names → AreSortedNames order names → EachPair Earlier names
   ascending_pairs total [] known up = tt
   ascending_pairs total (n ∷ []) known up = (tt, tt)
   ascending_pairs total (n ∷ m ∷ ns) known up = grind (arith, (ascending_pairs total (m ∷ ns) known.1 up.1), later_all)

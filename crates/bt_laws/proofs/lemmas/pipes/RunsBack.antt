@@ -9,7 +9,7 @@ use Rattle.bt_bed.specs.calls.Features.{IsName}
 use Rattle.bt_bed.specs.calls.Orders.{ArePlaced, IsTotal, AreDistinct}
 use Rattle.bt_bed.specs.model.Order.{Order, rank_order}
 use Rattle.bt_bed.proofs.lemmas.Definitions.{scan_finds}
-use Rattle.bt_runs.specs.model.Merged.{counted, is_counted, chromosomes, end_of, merged, runs_of, runs_on, in_order, ordered_runs, StrandRun, places_of, runs_of_strand, strand_runs}
+use Rattle.bt_runs.specs.model.Merged.{counted, is_counted, chromosomes, end_of, merged, runs_of, runs_on, ordered_names, ordered_runs, StrandRun, places_of, runs_of_strand, strand_runs}
 use Rattle.bt_runs.specs.declared.merge.merge_strand.MergeStrand.{MergeStrand}
 use Rattle.bt_runs.specs.declared.merge.merge_strand.MergeStrand.TheVariants.{One}
 use Rattle.bt_bed.specs.declared.record.strand.Strand.{Strand}
@@ -172,7 +172,7 @@ module _ (order : Order) (total : IsTotal order) where
 
   module _ (gap : ℕ) (strand : MergeStrand) (records : List Feature) (said : AllByRecursion IsSaid records) (placed : ArePlaced order (intervals_of records)) where
     names : List (List ℕ)
-    names = in_order order (chromosomes (counted strand records))
+    names = ordered_names order (chromosomes (counted strand records))
 
     names_known : AllByRecursion (λ name. IsTrue (order.knows name)) (chromosomes (counted strand records))
     names_known = named_all (λ name. IsTrue (order.knows name)) (counted strand records) (placed_known order (counted strand records) (some_placed order total (λ r. is_counted strand r.strand) records placed))

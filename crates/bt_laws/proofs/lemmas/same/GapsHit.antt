@@ -21,9 +21,9 @@ use Rattle.bt_sweep.specs.model.Lines.{intersect, lines_for, piece_line, pieces}
 use Rattle.bt_sweep.specs.calls.LineLaws.{spans_of}
 use Rattle.bt_sweep.specs.declared.output.shape.Shape.TheVariants.{Cut, Pieces}
 use Rattle.bt_sweep.proofs.lemmas.definitions.PieceLemmas.{only_pieces}
-use Rattle.bt_tool.specs.model.Report.{order_of, Inputs, or_empty, chromosomes_of}
+use Rattle.bt_tool.specs.model.Report.{order_in_use, Inputs, or_empty, chromosomes_of}
 use Rattle.bt_tool.specs.declared.planning.plan_type.Command.TheVariants.{Complement, Intersect, Subtract}
-use Rattle.bt_laws.specs.WholeRuns.{first_records, second_records, RunWrites, of_second, with_second}
+use Rattle.bt_laws.specs.WholeRuns.{first_records, second_records, RunWrites, of_second, with_second_input}
 use Rattle.bt_laws.specs.Same.{LieWithinLengths, subtract_by_complement}
 use Rattle.bt_laws.specs.Pipes.{AreSeparate, IsInput, is_no_header, three_columns}
 use Rattle.bt_runs.proofs.lemmas.Lists.{EachPair, all_any, all_map, all_so, filter_all, flat_map_same, all_zip}
@@ -101,9 +101,9 @@ module _ (a : Feature) (bs gs : List Feature) (size : ℕ) (within : a.stop ≤ 
 
 -- ---- the runs
 
-module _ (inputs : Inputs) (entries : List Entry) (genome : chromosomes_of inputs.genome ≡ Ok (Some entries)) (none : (bed_good Second (order_of (Some entries)) (or_empty inputs.second)).fault ≡ None) where
+module _ (inputs : Inputs) (entries : List Entry) (genome : chromosomes_of inputs.genome ≡ Ok (Some entries)) (none : (bed_good Second (order_in_use (Some entries)) (or_empty inputs.second)).fault ≡ None) where
   abbrev order : Order
-  order = order_of (Some entries)
+  order = order_in_use (Some entries)
 
   abbrev seconds : List Feature
   seconds = second_records (Some entries) inputs
@@ -142,10 +142,10 @@ module _ (inputs : Inputs) (entries : List Entry) (genome : chromosomes_of input
   all_lines as_read said within = flat_map_same (λ a. lines_for Cut any_overlap a gap_records) (λ a. lines_for Pieces any_overlap a seconds) as_read (all_zip IsSaid (λ (a : Feature). a.stop ≤ length_in entries a.chrom) (λ a. lines_for Cut any_overlap a gap_records ≡ lines_for Pieces any_overlap a seconds) as_read one_line said within)
 
   pub by_gaps : (bed_good First order inputs.first).fault ≡ None → LieWithinLengths entries (first_records (Some entries) inputs)
-      → RunWrites (Intersect Cut any_overlap None) (with_second (Complement false) inputs) (intersect Pieces any_overlap (first_records (Some entries) inputs) seconds)
-  by_gaps first_none within = sweeps_from (Intersect Cut any_overlap None) (with_second (Complement false) inputs) (Some entries) (intersect Pieces any_overlap (first_records (Some entries) inputs) seconds) genome
+      → RunWrites (Intersect Cut any_overlap None) (with_second_input (Complement false) inputs) (intersect Pieces any_overlap (first_records (Some entries) inputs) seconds)
+  by_gaps first_none within = sweeps_from (Intersect Cut any_overlap None) (with_second_input (Complement false) inputs) (Some entries) (intersect Pieces any_overlap (first_records (Some entries) inputs) seconds) genome
       (met_none order Cut any_overlap (bed_good First order inputs.first) (bed_good Second order (whole_text (of_second (Complement false) inputs))) first_none (second_input.faultless Second))
-      (λ well. intersect_whole Cut any_overlap None (with_second (Complement false) inputs) (Some entries) well ∙ ap (intersect Cut any_overlap (first_records (Some entries) inputs)) (second_input.records_are Second)
+      (λ well. intersect_whole Cut any_overlap None (with_second_input (Complement false) inputs) (Some entries) well ∙ ap (intersect Cut any_overlap (first_records (Some entries) inputs)) (second_input.records_are Second)
       ∙ all_lines (first_records (Some entries) inputs) (good_are_said First order inputs.first) within)
 
 pub subtract_gaps : subtract_by_complement

@@ -17,7 +17,7 @@ use Rattle.bt_runs.specs.declared.merge.merge_strand.MergeStrand.TheVariants.{Al
 use Rattle.bt_runs.proofs.lemmas.merge.Bridging.{are_runs, is_covered-Decides}
 use Rattle.bt_runs.proofs.lemmas.complement.Walks.{are_gaps, only_gaps}
 use Rattle.bt_laws.proofs.lemmas.single.StrandOrder.{file_ordered}
-use Rattle.bt_tool.specs.model.Report.{order_of, report_of}
+use Rattle.bt_tool.specs.model.Report.{order_in_use, report_of}
 use Rattle.bt_tool.specs.model.Written.{complement_written, merge_written, coverage_written}
 use Rattle.bt_tool.specs.declared.planning.plan_type.Command.TheVariants.{Complement, Merge, Coverage}
 use Rattle.bt_laws.specs.Same.{complement_of_complement, cut_at_length, merge_of_genomecov, LieWithinLengths}
@@ -125,7 +125,7 @@ module _ (entries : List Entry) (distinct : AreDistinct (genome_names entries)) 
 pub complements_twice : complement_of_complement
 complements_twice inputs entries well plain =
     let records = first_records (Some entries) inputs in
-    let order = order_of (Some entries) in
+    let order = order_in_use (Some entries) in
     let known = chroms_of inputs.genome entries well.genome in
     let good = bed_good First order inputs.first in
     let merged_well = fault_as (Complement false) (Merge 0 All) inputs (Some entries) well (told_same (complement_written entries false) (merge_written order 0 All) (items_in good) good.fault) in
@@ -214,7 +214,7 @@ module _ (entries : List Entry) (distinct : AreDistinct (genome_names entries)) 
 pub genomecov_merged : merge_of_genomecov
 genomecov_merged d inputs entries well within =
     let records = first_records (Some entries) inputs in
-    let order = order_of (Some entries) in
+    let order = order_in_use (Some entries) in
     let total = order_total (Some entries) in
     let known = chroms_of inputs.genome entries well.genome in
     let good = bed_good First order inputs.first in

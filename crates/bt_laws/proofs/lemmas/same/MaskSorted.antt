@@ -5,7 +5,7 @@ use Rattle.bt_lines.specs.declared.fault.Input.TheVariants.{First}
 use Rattle.bt_bed.specs.model.Feature.{Feature}
 use Rattle.bt_bed.specs.model.Order.{is_among}
 use Rattle.bt_bed.proofs.lemmas.parse.NameLemmas.{cases_name, name_eq, name_ne-sym}
-use Rattle.bt_seq.specs.model.Masked.{covers, names_of, Block, Owned, blocks_by, items_if_last, names_behind, own_records, owned_from, SequenceLine, bases_up_to}
+use Rattle.bt_seq.specs.model.Masked.{record_covers, names_of_sequences, Block, Owned, blocks_by, items_if_last, names_behind, own_records, owned_from, SequenceLine, bases_up_to}
 use Rattle.bt_seq.specs.calls.MaskState.{left_at_last}
 use Rattle.bt_laws.specs.Sequences.{AreOfChrom, items_of}
 use Rattle.bt_seq.proofs.lemmas.definitions.KnowsLemmas.{leave, leave_all}
@@ -201,9 +201,9 @@ module _ (t : Feature → Bool) (rs ss : List Feature) {both : List Feature} (pe
 pub by_sorted : masked_by_sorted
 by_sorted how full inputs other both chromosomes keeps ones one two three permuted =
     let lines = sequence_lines full inputs in
-    let names = names_of lines in
+    let names = names_of_sequences lines in
     by_both how full inputs other both chromosomes keeps one two three
     (all_so (λ (line : SequenceLine). (more : Names) × (names ≡ line.names ++ more)) (λ line. (p : ℕ) → line.before ≤ p → p < bases_up_to line → is_masked both line p ≡ (is_masked inputs line p || is_masked other line p)) lines
-    (λ line begins p from to. both_own (covers p) (bed_records inputs) (bed_records other) permuted ones
+    (λ line begins p from to. both_own (record_covers p) (bed_records inputs) (bed_records other) permuted ones
     (sound how full inputs chromosomes one).owned (sound how full (with_bed inputs other) chromosomes two).owned (sound how full (with_bed inputs both) chromosomes three).owned line.names begins.0 begins.1)
     (names_begin full First (lines_handed inputs.first)))

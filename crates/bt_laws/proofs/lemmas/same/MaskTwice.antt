@@ -8,10 +8,10 @@ use Rattle.bt_bed.specs.model.Feature.{Feature, intervals_of, Interval, spans_on
 use Rattle.bt_bed.specs.model.Genome.{Entry}
 use Rattle.bt_bed.specs.model.Good.{Good, good, items_in, block_good, bed_good, said_after}
 use Rattle.bt_bed.specs.model.Meeting.{written}
-use Rattle.bt_seq.specs.model.Masked.{covers, masked_byte, masked_from, masked_line, masked_text, names_of, own_records, SequenceLine, sequence_format, sequence_good, bases_up_to}
+use Rattle.bt_seq.specs.model.Masked.{record_covers, masked_byte, masked_from, masked_line, masked_text, names_of_sequences, own_records, SequenceLine, sequence_format, sequence_good, bases_up_to}
 use Rattle.bt_seq.specs.declared.mask.mask_how.MaskHow.{MaskHow}
 use Rattle.bt_seq.specs.declared.mask.mask_how.MaskHow.TheVariants.{Soft, Hard}
-use Rattle.bt_tool.specs.model.Report.{Inputs, or_empty, report_of, order_of}
+use Rattle.bt_tool.specs.model.Report.{Inputs, or_empty, report_of, order_in_use}
 use Rattle.bt_tool.specs.model.Written.{Report, report_by, Written}
 use Rattle.bt_tool.specs.declared.planning.plan_type.Command.TheVariants.{MaskFasta, Merge}
 use Rattle.bt_laws.specs.Same.{KeepsLines, layout_of, masked_keep_layout, masked_twice, sequence_lines, masked_by_both, masked_by_positions, masked_goes_on, with_bed, masked_by_merged, with_merged_bed}
@@ -60,7 +60,7 @@ module _ (how : MaskHow) (keeps : KeepsLines how) where
 
   module _ (records : List Feature) where
     abbrev kept_base : ℕ → ℕ → ℕ
-    kept_base position base = if list_any (covers position) records then masked_byte how base else base
+    kept_base position base = if list_any (record_covers position) records then masked_byte how base else base
 
     kept_not : (position base byte : ℕ) → IsNot how byte → byte ≤ 64 → eqb base byte ≡ false → eqb (kept_base position base) byte ≡ false
     kept_not position base byte is low other = grind arith
@@ -79,7 +79,7 @@ module _ (how : MaskHow) (keeps : KeepsLines how) where
     safe_text line clear = grind (arith, clear_from, size_of, last_from)
 
 -- the last names stay
-pub names_same : (f : SequenceLine → List ℕ) (items : List SequenceLine) → names_of (map (λ line. with_text line (f line)) items) ≡ names_of items
+pub names_same : (f : SequenceLine → List ℕ) (items : List SequenceLine) → names_of_sequences (map (λ line. with_text line (f line)) items) ≡ names_of_sequences items
 names_same f [] = refl
 names_same f (line ∷ []) = refl
 names_same f (line ∷ next ∷ lines) = names_same f (next ∷ lines)
@@ -159,19 +159,19 @@ layout_kept how full inputs chromosomes keeps well = layout how full inputs chro
 -- ---- the same positions
 
 module _ (how : MaskHow) where
-  same_from : (rs ss : List Feature) (position : ℕ) (bases : List ℕ) → ((p : ℕ) → position ≤ p → p < position + length bases → list_any (covers p) rs ≡ list_any (covers p) ss) → masked_from how rs position bases ≡ masked_from how ss position bases
+  same_from : (rs ss : List Feature) (position : ℕ) (bases : List ℕ) → ((p : ℕ) → position ≤ p → p < position + length bases → list_any (record_covers p) rs ≡ list_any (record_covers p) ss) → masked_from how rs position bases ≡ masked_from how ss position bases
   same_from rs ss position [] e = refl
   same_from rs ss position (base ∷ bases) e = ap₂ (λ (b : Bool) rest. (if b then masked_byte how base else base) ∷ rest) (e position (omega arith) (omega arith)) (same_from rs ss (suc position) bases (λ p from to. e p (omega (arith, from)) (omega (arith, to))))
 
-  pub same_line : (rs ss : List Feature) (line : SequenceLine) → ((p : ℕ) → line.before ≤ p → p < bases_up_to line → list_any (covers p) (own_records line.names rs) ≡ list_any (covers p) (own_records line.names ss)) → masked_line how rs line ≡ masked_line how ss line
+  pub same_line : (rs ss : List Feature) (line : SequenceLine) → ((p : ℕ) → line.before ≤ p → p < bases_up_to line → list_any (record_covers p) (own_records line.names rs) ≡ list_any (record_covers p) (own_records line.names ss)) → masked_line how rs line ≡ masked_line how ss line
   same_line rs ss line e = ap (λ t. t ++ end_bytes line.ending) (grind (arith, same_from))
 
-  both_from : (rs ss ts : List Feature) (position : ℕ) (bases : List ℕ) → ((p : ℕ) → position ≤ p → p < position + length bases → list_any (covers p) ts ≡ (list_any (covers p) rs || list_any (covers p) ss)) → masked_from how ss position (masked_from how rs position bases) ≡ masked_from how ts position bases
+  both_from : (rs ss ts : List Feature) (position : ℕ) (bases : List ℕ) → ((p : ℕ) → position ≤ p → p < position + length bases → list_any (record_covers p) ts ≡ (list_any (record_covers p) rs || list_any (record_covers p) ss)) → masked_from how ss position (masked_from how rs position bases) ≡ masked_from how ts position bases
   both_from rs ss ts position [] e = refl
   both_from rs ss ts position (base ∷ bases) e = grind (arith, (both_from rs ss ts (suc position) bases (λ p from to. e p (omega (arith, from)) (omega (arith, to)))))
 
   both_line : (keeps : KeepsLines how) (rs ss ts : List Feature) (line : SequenceLine)
-      → ((p : ℕ) → line.before ≤ p → p < bases_up_to line → list_any (covers p) (own_records line.names ts) ≡ (list_any (covers p) (own_records line.names rs) || list_any (covers p) (own_records line.names ss)))
+      → ((p : ℕ) → line.before ≤ p → p < bases_up_to line → list_any (record_covers p) (own_records line.names ts) ≡ (list_any (record_covers p) (own_records line.names rs) || list_any (record_covers p) (own_records line.names ss)))
       → masked_line how ss (with_text line (masked_text how rs line)) ≡ masked_line how ts line
   both_line keeps rs ss ts line e = ap (λ t. t ++ end_bytes line.ending) (grind (arith, both_from))
 
@@ -221,7 +221,7 @@ none_by written members fault e = grind arith
 
 module _ (inputs : Inputs) (genome : Option Handed) (merging : Option (List Entry)) (merged : RunsWithoutFault (Merge 0 All) (second_alone genome inputs) merging) where
   abbrev order : Order
-  order = order_of merging
+  order = order_in_use merging
 
   total : IsTotal order
   total = order_total merging
@@ -274,7 +274,7 @@ module _ (inputs : Inputs) (genome : Option Handed) (merging : Option (List Entr
   same_cover : (name : List ℕ) → SameCover (spans_on name (intervals_of as_read)) (spans_on name (intervals_of (map three_columns runs)))
   same_cover name = grind (arith, back, run_spans, total, placed, full, all, same_sym, runs_cover)
 
-  own_covers : (names : List (List ℕ)) (p : ℕ) → list_any (covers p) (own_records names (items_in (block_good Second bed))) ≡ list_any (covers p) (own_records names (items_in (block_good Second (whole_text text))))
+  own_covers : (names : List (List ℕ)) (p : ℕ) → list_any (record_covers p) (own_records names (items_in (block_good Second bed))) ≡ list_any (record_covers p) (own_records names (items_in (block_good Second (whole_text text))))
   own_covers names p = grind (arith, bed_is, own_alike, bed_contiguous, runs_contiguous, same_chroms, same_cover, runs_items)
 
   leaves : (names : List (List ℕ)) → leave (Some names) None (items_in (block_good Second (whole_text text))) ≡ leave (Some names) None (items_in (block_good Second bed))
@@ -286,7 +286,7 @@ by_merged how full inputs chromosomes genome merging well merged =
     let bed = bed_of (with_merged_bed genome inputs) in
     let old = sound how full inputs chromosomes well in
     let new : IsSound (sequence_good full First inputs.first) bed =
-    record { lines = old.lines; records = (runs_are inputs genome merging merged).faultless; owned = ap is_some (leaves inputs genome merging merged (names_of lines)) ∙ old.owned } in
+    record { lines = old.lines; records = (runs_are inputs genome merging merged).faultless; owned = ap is_some (leaves inputs genome merging merged (names_of_sequences lines)) ∙ old.owned } in
     let again : RunsWithoutFault (MaskFasta how full) (with_merged_bed genome inputs) chromosomes = record {
       genome = well.genome;
       faultless = ap (λ (r : Report). r.fault) (report_there (MaskFasta how full) (with_merged_bed genome inputs) chromosomes well.genome) ∙ sound_report how (sequence_good full First inputs.first) bed new;

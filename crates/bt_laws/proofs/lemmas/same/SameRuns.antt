@@ -17,13 +17,13 @@ use Rattle.bt_bed.specs.model.BedLine.{interval_lines}
 use Rattle.bt_bed.specs.model.Genome.{Entry}
 use Rattle.bt_bed.specs.model.Order.{Order, is_among}
 use Rattle.bt_bed.specs.declared.record.strand.Strand.{Strand}
-use Rattle.bt_runs.specs.model.Merged.{counted, chromosomes, merged, runs_on, in_order, ordered_runs, without, runs_of}
+use Rattle.bt_runs.specs.model.Merged.{counted, chromosomes, merged, runs_on, ordered_names, ordered_runs, without, runs_of}
 use Rattle.bt_runs.specs.model.Depth.{coverage, depth_at, depth_of, depth_on, depths_on, is_counted_by, reported}
 use Rattle.bt_runs.specs.model.Gaps.{complement}
 use Rattle.bt_laws.specs.Runs.{AreKnown}
 use Rattle.bt_runs.specs.declared.merge.merge_strand.MergeStrand.{MergeStrand}
 use Rattle.bt_runs.specs.declared.merge.merge_strand.MergeStrand.TheVariants.{All, Each, One}
-use Rattle.bt_tool.specs.model.Report.{entries_in, order_of, Inputs, report_of, behaviour_of, chromosomes_of}
+use Rattle.bt_tool.specs.model.Report.{entries_in, order_in_use, Inputs, report_of, behaviour_of, chromosomes_of}
 use Rattle.bt_tool.specs.declared.planning.plan_type.Command.TheVariants.{Complement, Merge}
 use Rattle.bt_laws.specs.WholeRuns.{RunsWithoutFault, first_records, RunWrites, piped}
 use Rattle.bt_laws.specs.Same.{IsRepeated, exchanged_complement, exchanged_genomecov, exchanged_merge, repeated_complement, repeated_merge, complement_of_merge, merge_of_merge}
@@ -127,7 +127,7 @@ module _ (order : Order) (total : IsTotal order) where
   ]
 
   abbrev named : (Feature → Bool) → List Feature → List (List ℕ)
-  named keep rs = in_order order (chromosomes (kept keep rs))
+  named keep rs = ordered_names order (chromosomes (kept keep rs))
 
   module _ (keep : Feature → Bool) (rs : List Feature) (placed : ArePlaced order (intervals_of rs)) where
     known : AreKnown order (chromosomes (kept keep rs))
@@ -172,12 +172,12 @@ exchanged_depths zeros strand entries rs ss is =
 
 -- ---- the reports
 
-placed_first : (chromosomes : Option (List Entry)) (inputs : Inputs) → ArePlaced (order_of chromosomes) (intervals_of (first_records chromosomes inputs))
-placed_first chromosomes inputs = placed_good First (order_of chromosomes) inputs.first (order_total chromosomes)
+placed_first : (chromosomes : Option (List Entry)) (inputs : Inputs) → ArePlaced (order_in_use chromosomes) (intervals_of (first_records chromosomes inputs))
+placed_first chromosomes inputs = placed_good First (order_in_use chromosomes) inputs.first (order_total chromosomes)
 
 -- all runs at once, or those of one strand
 pub merge_pooled : (d : ℕ) (strand : MergeStrand) (inputs : Inputs) (chromosomes : Option (List Entry)) → strand ≢ Each → RunsWithoutFault (Merge d strand) inputs chromosomes
-    → (report_of (Merge d strand) inputs).output ≡ interval_lines (ordered_runs (order_of chromosomes) d strand (first_records chromosomes inputs))
+    → (report_of (Merge d strand) inputs).output ≡ interval_lines (ordered_runs (order_in_use chromosomes) d strand (first_records chromosomes inputs))
 merge_pooled d Each inputs chromosomes other well = absurd (other refl)
 merge_pooled d All inputs chromosomes other well = merge_whole d All inputs chromosomes well
 merge_pooled d (One strand) inputs chromosomes other well = merge_whole d (One strand) inputs chromosomes well
@@ -185,7 +185,7 @@ merge_pooled d (One strand) inputs chromosomes other well = merge_whole d (One s
 merge_alike : (d : ℕ) (strand : MergeStrand) (inputs others : Inputs) (chromosomes : Option (List Entry)) → strand ≢ Each → RunsWithoutFault (Merge d strand) inputs chromosomes → RunsWithoutFault (Merge d strand) others chromosomes
     → IsAlike (first_records chromosomes inputs) (first_records chromosomes others) → (report_of (Merge d strand) inputs).output ≡ (report_of (Merge d strand) others).output
 merge_alike d strand inputs others chromosomes other one two is =
-    merge_pooled d strand inputs chromosomes other one ∙ ap interval_lines (alike_runs (order_of chromosomes) (order_total chromosomes) d strand (first_records chromosomes inputs) (first_records chromosomes others) (placed_first chromosomes inputs) (placed_first chromosomes others) is)
+    merge_pooled d strand inputs chromosomes other one ∙ ap interval_lines (alike_runs (order_in_use chromosomes) (order_total chromosomes) d strand (first_records chromosomes inputs) (first_records chromosomes others) (placed_first chromosomes inputs) (placed_first chromosomes others) is)
     ∙ sym (merge_pooled d strand others chromosomes other two)
 
 complement_alike : (limit : Bool) (inputs others : Inputs) (chromosomes : Option (List Entry)) → RunsWithoutFault (Complement limit) inputs chromosomes → RunsWithoutFault (Complement limit) others chromosomes
@@ -336,13 +336,13 @@ module _ (order : Order) (total : IsTotal order) (gap : ℕ) (strand : MergeStra
 
 -- ---- a run on an output
 
-pub merge_on : (d : ℕ) (strand : MergeStrand) (inputs : Inputs) (chromosomes : Option (List Entry)) (text : List ℕ) (records : List Feature) → chromosomes_of inputs.genome ≡ Ok chromosomes → inputs.first ≡ whole_text text → IsInput (order_of chromosomes) text records
-    → report_of (Merge d strand) inputs ≡ record { output = (merge_written (order_of chromosomes) d strand).whole records; fault = None }
+pub merge_on : (d : ℕ) (strand : MergeStrand) (inputs : Inputs) (chromosomes : Option (List Entry)) (text : List ℕ) (records : List Feature) → chromosomes_of inputs.genome ≡ Ok chromosomes → inputs.first ≡ whole_text text → IsInput (order_in_use chromosomes) text records
+    → report_of (Merge d strand) inputs ≡ record { output = (merge_written (order_in_use chromosomes) d strand).whole records; fault = None }
 merge_on d strand inputs chromosomes text records genome first is =
     report_there (Merge d strand) inputs chromosomes genome
     ∙ (grind arith)
 
-pub complement_on : (limit : Bool) (inputs : Inputs) (chromosomes : Option (List Entry)) (text : List ℕ) (records : List Feature) → chromosomes_of inputs.genome ≡ Ok chromosomes → inputs.first ≡ whole_text text → IsInput (order_of chromosomes) text records
+pub complement_on : (limit : Bool) (inputs : Inputs) (chromosomes : Option (List Entry)) (text : List ℕ) (records : List Feature) → chromosomes_of inputs.genome ≡ Ok chromosomes → inputs.first ≡ whole_text text → IsInput (order_in_use chromosomes) text records
     → report_of (Complement limit) inputs ≡ record { output = interval_lines (complement limit (entries_in chromosomes) records); fault = None }
 complement_on limit inputs chromosomes text records genome first is =
     report_there (Complement limit) inputs chromosomes genome
@@ -354,7 +354,7 @@ writes_is command inputs bytes e = record { output = ap (λ (r : Report). r.outp
 -- what is known of the records of a run
 module _ (chromosomes_in : Option (List Entry)) (inputs : Inputs) where
   abbrev order_in : Order
-  order_in = order_of chromosomes_in
+  order_in = order_in_use chromosomes_in
 
   abbrev as_read : List Feature
   as_read = first_records chromosomes_in inputs
@@ -372,10 +372,10 @@ module _ (chromosomes_in : Option (List Entry)) (inputs : Inputs) where
   there_input d strand = merge_back order_in (order_total chromosomes_in) d strand as_read (good_are_said First order_in inputs.first) read_placed
 
 merged_by : (d : ℕ) (strand : MergeStrand) (inputs : Inputs) (chromosomes_in : Option (List Entry)) → RunsWithoutFault (Merge d strand) inputs chromosomes_in
-    → (report_of (Merge d strand) inputs).output ≡ interval_lines (ordered_runs (order_of chromosomes_in) d strand (first_records chromosomes_in inputs))
+    → (report_of (Merge d strand) inputs).output ≡ interval_lines (ordered_runs (order_in_use chromosomes_in) d strand (first_records chromosomes_in inputs))
     → RunWrites (Merge d All) (piped (Merge d strand) inputs) (report_of (Merge d strand) inputs).output
 merged_by d strand inputs chromosomes_in well e =
-    let order = order_of chromosomes_in in
+    let order = order_in_use chromosomes_in in
     let records = first_records chromosomes_in inputs in
     writes_is (Merge d All) (piped (Merge d strand) inputs) (report_of (Merge d strand) inputs).output
     (merge_on d All (piped (Merge d strand) inputs) chromosomes_in (report_of (Merge d strand) inputs).output (map three_columns (ordered_runs order d strand records)) well.genome refl
@@ -402,7 +402,7 @@ gaps_again limit entries order total records placed full = grind (arith, (all_co
 
 pub complement_merged : complement_of_merge
 complement_merged limit inputs chromosomes_in well =
-    let order = order_of chromosomes_in in
+    let order = order_in_use chromosomes_in in
     let records = first_records chromosomes_in inputs in
     let good = bed_good First order inputs.first in
     let merged_well = fault_as (Complement limit) (Merge 0 All) inputs chromosomes_in well (told_same (complement_written (entries_in chromosomes_in) limit) (merge_written order 0 All) (items_in good) good.fault) in

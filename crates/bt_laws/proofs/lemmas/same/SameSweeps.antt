@@ -17,10 +17,10 @@ use Rattle.bt_sweep.specs.calls.LineLaws.{spans_of}
 use Rattle.bt_sweep.specs.declared.hits.hit_rule.HitRule.{HitRule}
 use Rattle.bt_sweep.specs.declared.output.shape.Shape.{Shape}
 use Rattle.bt_sweep.specs.declared.output.shape.Shape.TheVariants.{Count, Missing, Once, OrigA, Whole, Pieces}
-use Rattle.bt_tool.specs.model.Report.{order_of, behaviour_of, Inputs, or_empty, chromosomes_of, report_of, report_on}
+use Rattle.bt_tool.specs.model.Report.{order_in_use, behaviour_of, Inputs, or_empty, chromosomes_of, report_of, report_on}
 use Rattle.bt_tool.specs.model.Written.{met_report, met_within, Report, report_by, Written, merge_written}
 use Rattle.bt_tool.specs.declared.planning.plan_type.Command.TheVariants.{Intersect, Subtract, Merge}
-use Rattle.bt_laws.specs.WholeRuns.{RunsWithoutFault, first_records, second_records, RunWrites, of_second, with_second}
+use Rattle.bt_laws.specs.WholeRuns.{RunsWithoutFault, first_records, second_records, RunWrites, of_second, with_second_input}
 use Rattle.bt_laws.specs.Same.{Counted, counts_say_all, missing_is_whole, own_line, with_hits, merged_second_missing, merged_second_once, merged_second_subtract, one_base}
 use Rattle.bt_runs.proofs.lemmas.Lists.{Some_of, all_any, flat_map_same, map_map, all_so, filter_passes}
 use Rattle.bt_laws.proofs.lemmas.parts.PartSweep.{all_true}
@@ -45,7 +45,7 @@ use Rattle.bt_laws.proofs.lemmas.pipes.LinesBack.{IsSaid, good_are_said}
 use Rattle.bt_laws.proofs.lemmas.pipes.SweepBack.{Hit, all_hits, cut_bounds, same_name}
 use Rattle.bt_laws.proofs.lemmas.parts.PartTexts.{order_total}
 use Rattle.bt_runs.proofs.lemmas.merge.Bridging.{is_covered-Decides}
-use Rattle.bt_seq.specs.model.Masked.{covers, Block, Owned, blocks_by, items_if_last, left_by, own_records, owned_from}
+use Rattle.bt_seq.specs.model.Masked.{record_covers, Block, Owned, blocks_by, items_if_last, left_by, own_records, owned_from}
 use Rattle.bt_seq.specs.calls.MaskState.{left_at_last}
 use Rattle.bt_seq.proofs.lemmas.definitions.KnowsLemmas.{leave, leave_all}
 use Rattle.bt_laws.proofs.lemmas.pipes.Placing.{others}
@@ -58,7 +58,7 @@ missing_met order rule limit first second = grind arith
 
 same_report_on : (rule : HitRule) (held : Option ℕ) (found : Result (Option (List Entry)) FaultValue) (first : Handed) (second : Option Handed) → report_on (Intersect Missing rule held) found first second ≡ report_on (Subtract true rule held) found first second
 same_report_on rule held (Err fault) first second = refl
-same_report_on rule held (Ok chromosomes) first second = ap met_report (missing_met (order_of chromosomes) rule held (bed_good First (order_of chromosomes) first) (bed_good Second (order_of chromosomes) (or_empty second)))
+same_report_on rule held (Ok chromosomes) first second = ap met_report (missing_met (order_in_use chromosomes) rule held (bed_good First (order_in_use chromosomes) first) (bed_good Second (order_in_use chromosomes) (or_empty second)))
 
 pub missing_whole : missing_is_whole
 unfolding report_of
@@ -240,9 +240,9 @@ pub sweeps_from : (command : Command) (inputs : Inputs) (chromosomes : Option (L
     → ((behaviour_of command chromosomes).report inputs.first inputs.second).fault ≡ None → (RunsWithoutFault command inputs chromosomes → (report_of command inputs).output ≡ bytes) → RunWrites command inputs bytes
 sweeps_from command inputs chromosomes bytes genome none output = grind (arith, report_there)
 
-module _ (inputs : Inputs) (chromosomes : Option (List Entry)) (genome : chromosomes_of inputs.genome ≡ Ok chromosomes) (none : (bed_good Second (order_of chromosomes) (or_empty inputs.second)).fault ≡ None) where
+module _ (inputs : Inputs) (chromosomes : Option (List Entry)) (genome : chromosomes_of inputs.genome ≡ Ok chromosomes) (none : (bed_good Second (order_in_use chromosomes) (or_empty inputs.second)).fault ≡ None) where
   abbrev order : Order
-  order = order_of chromosomes
+  order = order_in_use chromosomes
 
   abbrev seconds : List Feature
   seconds = second_records chromosomes inputs
@@ -274,34 +274,34 @@ module _ (inputs : Inputs) (chromosomes : Option (List Entry)) (genome : chromos
         sym (intersect_sees shape see (first_records chromosomes inputs) seconds (items_in (bed_good Second order (whole_text (of_second (Merge 0 All) inputs)))) (good_are_said Second order (or_empty inputs.second)) (good_are_said Second order (whole_text (of_second (Merge 0 All) inputs)))
         (λ name. subst (λ rs. SameCover (spans_on name (intervals_of seconds)) (spans_on name (intervals_of rs))) (sym (second_input.records_are Second)) (grind (arith, all_so, good_are_said, all_counted, back, run_spans, order_total, placed_good, same_sym, runs_cover))))
 
-    intersect_merged : RunWrites (Intersect shape any_overlap None) (with_second (Merge 0 All) inputs) (intersect shape any_overlap (first_records chromosomes inputs) seconds)
-    intersect_merged = sweeps_from (Intersect shape any_overlap None) (with_second (Merge 0 All) inputs) chromosomes (intersect shape any_overlap (first_records chromosomes inputs) seconds) genome merged_fault
-        (λ well. intersect_whole shape any_overlap None (with_second (Merge 0 All) inputs) chromosomes well ∙ merged_lines)
+    intersect_merged : RunWrites (Intersect shape any_overlap None) (with_second_input (Merge 0 All) inputs) (intersect shape any_overlap (first_records chromosomes inputs) seconds)
+    intersect_merged = sweeps_from (Intersect shape any_overlap None) (with_second_input (Merge 0 All) inputs) chromosomes (intersect shape any_overlap (first_records chromosomes inputs) seconds) genome merged_fault
+        (λ well. intersect_whole shape any_overlap None (with_second_input (Merge 0 All) inputs) chromosomes well ∙ merged_lines)
 
-  subtract_merged : (bed_good First order inputs.first).fault ≡ None → RunWrites (Subtract false any_overlap None) (with_second (Merge 0 All) inputs) (intersect Pieces any_overlap (first_records chromosomes inputs) seconds)
-  subtract_merged first_none = sweeps_from (Subtract false any_overlap None) (with_second (Merge 0 All) inputs) chromosomes (intersect Pieces any_overlap (first_records chromosomes inputs) seconds) genome (merged_fault Pieces pieces_see first_none)
-      (λ well. subtract_whole false any_overlap None (with_second (Merge 0 All) inputs) chromosomes well ∙ merged_lines Pieces pieces_see first_none)
+  subtract_merged : (bed_good First order inputs.first).fault ≡ None → RunWrites (Subtract false any_overlap None) (with_second_input (Merge 0 All) inputs) (intersect Pieces any_overlap (first_records chromosomes inputs) seconds)
+  subtract_merged first_none = sweeps_from (Subtract false any_overlap None) (with_second_input (Merge 0 All) inputs) chromosomes (intersect Pieces any_overlap (first_records chromosomes inputs) seconds) genome (merged_fault Pieces pieces_see first_none)
+      (λ well. subtract_whole false any_overlap None (with_second_input (Merge 0 All) inputs) chromosomes well ∙ merged_lines Pieces pieces_see first_none)
 
 module _ (shape : Shape) (held : Option ℕ) (inputs : Inputs) (chromosomes : Option (List Entry)) where
-  pub nones : ((met_within (order_of chromosomes) shape any_overlap held (bed_good First (order_of chromosomes) inputs.first) (bed_good Second (order_of chromosomes) (or_empty inputs.second))).fault ≡ None)
-      → ((bed_good First (order_of chromosomes) inputs.first).fault ≡ None) × ((bed_good Second (order_of chromosomes) (or_empty inputs.second)).fault ≡ None)
-  nones e = met_faultless (order_of chromosomes) shape any_overlap held (bed_good First (order_of chromosomes) inputs.first) (bed_good Second (order_of chromosomes) (or_empty inputs.second)) e
+  pub nones : ((met_within (order_in_use chromosomes) shape any_overlap held (bed_good First (order_in_use chromosomes) inputs.first) (bed_good Second (order_in_use chromosomes) (or_empty inputs.second))).fault ≡ None)
+      → ((bed_good First (order_in_use chromosomes) inputs.first).fault ≡ None) × ((bed_good Second (order_in_use chromosomes) (or_empty inputs.second)).fault ≡ None)
+  nones e = met_faultless (order_in_use chromosomes) shape any_overlap held (bed_good First (order_in_use chromosomes) inputs.first) (bed_good Second (order_in_use chromosomes) (or_empty inputs.second)) e
 
-  by_intersect : (both : Bool) → SeesBases shape → RunsWithoutFault (Intersect shape (one_base both) held) inputs chromosomes → RunWrites (Intersect shape (one_base both) None) (with_second (Merge 0 All) inputs) (report_of (Intersect shape (one_base both) held) inputs).output
+  by_intersect : (both : Bool) → SeesBases shape → RunsWithoutFault (Intersect shape (one_base both) held) inputs chromosomes → RunWrites (Intersect shape (one_base both) None) (with_second_input (Merge 0 All) inputs) (report_of (Intersect shape (one_base both) held) inputs).output
   by_intersect both see well =
-      let order = order_of chromosomes in
+      let order = order_in_use chromosomes in
       let firsts = first_records chromosomes inputs in
       let seconds = second_records chromosomes inputs in
       let none = met_faultless order shape (one_base both) held (bed_good First order inputs.first) (bed_good Second order (or_empty inputs.second)) (well_there (Intersect shape (one_base both) held) inputs chromosomes well) in
       let merged = intersect_merged inputs chromosomes well.genome none.1 shape see none.0 in
-      let merged_well : RunsWithoutFault (Intersect shape any_overlap None) (with_second (Merge 0 All) inputs) chromosomes = record { genome = well.genome; faultless = merged.faultless } in
-      let merged_none = met_faultless order shape any_overlap None (bed_good First order inputs.first) (bed_good Second order (whole_text (of_second (Merge 0 All) inputs))) (well_there (Intersect shape any_overlap None) (with_second (Merge 0 All) inputs) chromosomes merged_well) in
-      subst (RunWrites (Intersect shape (one_base both) None) (with_second (Merge 0 All) inputs)) (sym (intersect_whole shape (one_base both) held inputs chromosomes well ∙ one_base_lines both shape firsts seconds))
-      (sweeps_from (Intersect shape (one_base both) None) (with_second (Merge 0 All) inputs) chromosomes (intersect shape any_overlap firsts seconds) well.genome
+      let merged_well : RunsWithoutFault (Intersect shape any_overlap None) (with_second_input (Merge 0 All) inputs) chromosomes = record { genome = well.genome; faultless = merged.faultless } in
+      let merged_none = met_faultless order shape any_overlap None (bed_good First order inputs.first) (bed_good Second order (whole_text (of_second (Merge 0 All) inputs))) (well_there (Intersect shape any_overlap None) (with_second_input (Merge 0 All) inputs) chromosomes merged_well) in
+      subst (RunWrites (Intersect shape (one_base both) None) (with_second_input (Merge 0 All) inputs)) (sym (intersect_whole shape (one_base both) held inputs chromosomes well ∙ one_base_lines both shape firsts seconds))
+      (sweeps_from (Intersect shape (one_base both) None) (with_second_input (Merge 0 All) inputs) chromosomes (intersect shape any_overlap firsts seconds) well.genome
       (met_none order shape (one_base both) (bed_good First order inputs.first) (bed_good Second order (whole_text (of_second (Merge 0 All) inputs))) merged_none.0 merged_none.1)
-      (λ again. intersect_whole shape (one_base both) None (with_second (Merge 0 All) inputs) chromosomes again
-      ∙ one_base_lines both shape (first_records chromosomes (with_second (Merge 0 All) inputs)) (second_records chromosomes (with_second (Merge 0 All) inputs))
-      ∙ sym (intersect_whole shape any_overlap None (with_second (Merge 0 All) inputs) chromosomes merged_well) ∙ merged.output))
+      (λ again. intersect_whole shape (one_base both) None (with_second_input (Merge 0 All) inputs) chromosomes again
+      ∙ one_base_lines both shape (first_records chromosomes (with_second_input (Merge 0 All) inputs)) (second_records chromosomes (with_second_input (Merge 0 All) inputs))
+      ∙ sym (intersect_whole shape any_overlap None (with_second_input (Merge 0 All) inputs) chromosomes merged_well) ∙ merged.output))
 
 pub once_merged : merged_second_once
 once_merged both held inputs chromosomes well = by_intersect Once held inputs chromosomes both once_sees well
@@ -352,7 +352,7 @@ together_blocks (r ∷ s ∷ ss) h = followed r s ss h.0 (together_blocks (s ∷
 
 -- ---- what they cover
 
-covers_on : (p : ℕ) (name : List ℕ) (rs : List Feature) → list_any (covers p) (on_name name rs) ≡ is_covered (spans_on name (intervals_of rs)) p
+covers_on : (p : ℕ) (name : List ℕ) (rs : List Feature) → list_any (record_covers p) (on_name name rs) ≡ is_covered (spans_on name (intervals_of rs)) p
 covers_on p name [] = refl
 covers_on p name (r ∷ rs) = grind (arith, (covers_on p name rs))
 
@@ -361,7 +361,7 @@ module _ (rs ss : List Feature) where
   own_of os = flat_map (λ (o : Owned Feature). items_if_last o.left o.block.items) os
 
   own_same : (p : ℕ) (same : (name : List ℕ) → SameCover (spans_on name (intervals_of rs)) (spans_on name (intervals_of ss))) (left : Option (List (List ℕ))) (names : List (List ℕ))
-      → list_any (covers p) (own_of (owned_from left (map (block_of rs) names))) ≡ list_any (covers p) (own_of (owned_from left (map (block_of ss) names)))
+      → list_any (record_covers p) (own_of (owned_from left (map (block_of rs) names))) ≡ list_any (record_covers p) (own_of (owned_from left (map (block_of ss) names)))
   own_same p same left [] = refl
   own_same p same left (n ∷ ns) = grind (arith, (own_same p same (left_by left n) ns), list_any-append, covers_on, is_covered-Decides)
 
@@ -374,7 +374,7 @@ module _ (rs ss : List Feature) where
     blocks_two = together_blocks ss two ∙ ap (map (block_of ss)) chroms
 
     -- they mask the same positions of each sequence
-    pub own_alike : ((name : List ℕ) → SameCover (spans_on name (intervals_of rs)) (spans_on name (intervals_of ss))) → (names : List (List ℕ)) (p : ℕ) → list_any (covers p) (own_records names rs) ≡ list_any (covers p) (own_records names ss)
+    pub own_alike : ((name : List ℕ) → SameCover (spans_on name (intervals_of rs)) (spans_on name (intervals_of ss))) → (names : List (List ℕ)) (p : ℕ) → list_any (record_covers p) (own_records names rs) ≡ list_any (record_covers p) (own_records names ss)
     own_alike same names p = grind (arith, (together_blocks rs one), (own_same p same (Some names) (chromosomes (intervals_of rs))), blocks_two)
 
     -- and leave the same names

@@ -1,6 +1,6 @@
 -- The words of a command line divide into items in one way.
 use Rattle.bt_lines.proofs.Std.{rules, ◌≡◌, ◌≢◌, ℕ, ◌≤◌, Bool, false, List, [], ◌∷◌, ◌++◌, length, Option, Some, None, refl, arith, append_assoc, length-append, All, bytes_eq, Result, ◌↔◌, flat_map-append, All-head, All-tail, drop-append_seam, drop-length, bytes_eq-Decides}
-use Rattle.bt_tool.specs.model.Usage.{Item, items_of, spelled}
+use Rattle.bt_tool.specs.model.Usage.{Item, items_of, words_spelled}
 use Rattle.bt_tool.specs.calls.CommandLine.{IsItem, IsLongestDivision, AnswersPlan, AnswersAll}
 use Rattle.bt_laws.specs.Reports.{AnswerIsUnique, FaultIsOfWhatIsLeft, LastItemCounts, LongestDivisionIsUnique}
 use Rattle.bt_tool.specs.model.Options.{PlanSeen, asked, command_of, last_item, options, word_fault}
@@ -11,7 +11,7 @@ use Rattle.bt_tool.proofs.lemmas.Division.{allowed, divided}
 
 -- the words begin with the items
 abbrev Front : List Word → List Item → Type 0
-Front words items = (rest : List Word) × (words ≡ spelled items ++ rest)
+Front words items = (rest : List Word) × (words ≡ words_spelled items ++ rest)
 
 front : (table : Table) (words : List Word) → Front words (items_of table words)
 front table words = grind (arith, (divided table Front (λ words. (words, refl)) (λ item rest items h spells. grind arith) words))
@@ -19,7 +19,7 @@ front table words = grind (arith, (divided table Front (λ words. (words, refl))
 -- if the words begin with other items, these are the first of those that are read
 items_of-spelled : (table : Table) (others : List Item) (rest : List Word)
     → All (IsItem table) others
-    → items_of table (spelled others ++ rest) ≡ others ++ items_of table rest
+    → items_of table (words_spelled others ++ rest) ≡ others ++ items_of table rest
 items_of-spelled table [] rest h = refl
 items_of-spelled table (item ∷ others) rest h = grind (arith, (items_of-spelled table others rest (All-tail (IsItem table) item others h)), All-head, append_assoc, items_of-item)
 
@@ -27,7 +27,7 @@ items_of-IsLongest : (table : Table) (words : List Word)
     → IsLongestDivision table words (items_of table words)
 items_of-IsLongest table words = grind (arith, allowed, front, items_of-spelled, flat_map-append, length-append)
 
-spelled-none : (items : List Item) → length (spelled items) ≤ 0 → items ≡ []
+spelled-none : (items : List Item) → length (words_spelled items) ≤ 0 → items ≡ []
 spelled-none [] h = refl
 spelled-none (item ∷ items) h = grind arith
 
@@ -39,12 +39,12 @@ pub division-unique : LongestDivisionIsUnique
 division-unique table words items = grind (arith, (items_of-IsLongest table words), (longest-items_of table words items))
 
 no_fault-all : (table : Table) (at : ℕ) (words : List Word) → word_fault table at words ≡ None
-    → spelled (items_of table words) ≡ words
+    → words_spelled (items_of table words) ≡ words
 unfolding word_fault
 no_fault-all table at words e = grind (arith, (front table words), drop-append_seam, rules)
 
 all-no_fault : (table : Table) (at : ℕ) (words : List Word)
-    → spelled (items_of table words) ≡ words → word_fault table at words ≡ None
+    → words_spelled (items_of table words) ≡ words → word_fault table at words ≡ None
 unfolding word_fault
 all-no_fault table at words e = grind (arith, drop-length)
 

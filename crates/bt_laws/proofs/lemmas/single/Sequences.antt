@@ -1,9 +1,9 @@
 -- Lemmas on alignments and masked sequences.
 use Rattle.bt_lines.proofs.Std.{common_steps, rules, ◌≡◌, ℕ, ◌<◌, ◌≤◌, Bool, true, false, cond, List, [], ◌∷◌, ◌++◌, length, Option, Some, None, refl, sym, ap, ◌∙◌, length-append, arith, bytes_eq, append_cancel_right, ◌+◌, subst, sum_by-cons, add-zero, not, list_all, and_parts, append_assoc, flat_map, AllByRecursion, ◌≢◌, bytes_decides}
 use Rattle.bt_bed.specs.model.Feature.{Feature, Span}
-use Rattle.bt_seq.specs.model.Masked.{Block, blocks_by, names_behind, owned_from, decided, mask_rule, SequenceLine}
+use Rattle.bt_seq.specs.model.Masked.{Block, blocks_by, names_behind, owned_from, line_decided, mask_rule, SequenceLine}
 use Rattle.bt_seq.specs.calls.MaskState.{left_at_last}
-use Rattle.bt_laws.specs.Sequences.{owners_stay, owners_were, AreBetween, blocks_are_within, unskipped_are_one_block, Divides, division_is_found, division_is_one, is_operation, operations_are_divided, spelled, early_mask_rule, faultless_are_masked, masked_are_a_prefix, AreApart, AreOfChrom, DividesAt, blocks_are_maximal_runs, items_of, owners_are_first, unowned_find_no_name, quiet_records_are_taken, taken_are_first}
+use Rattle.bt_laws.specs.Sequences.{owners_stay, owners_were, AreBetween, blocks_are_within, unskipped_are_one_block, Divides, division_is_found, division_is_one, is_operation, operations_are_divided, part_bytes, early_mask_rule, faultless_are_masked, masked_are_a_prefix, AreApart, AreOfChrom, DividesAt, blocks_are_maximal_runs, items_of, owners_are_first, unowned_find_no_name, quiet_records_are_taken, taken_are_first}
 use Rattle.bt_seq.specs.model.Alignment.{is_skip, with_bases, covered_by, reference_length, Part, each_operation, is_letter, onto_part, operation_of, operations_in, parts_of, with_part}
 use Rattle.bt_seq.specs.declared.sam.cigar.Operation.{Operation}
 use Rattle.bt_seq.proofs.lemmas.Sam.{blocks_open, open_blocks, skip_covers, digits_no_letters, parts_cut}
@@ -103,7 +103,7 @@ one_block start operations all = blocks_open start operations ∙ open_unskipped
 -- A CIGAR's division into numbers and letters: there is one at most, and it is the one that is found.
 
 -- the parts of a division are those that are found_parts
-found_parts : (parts : List Part) → list_all is_operation parts ≡ true → parts_of (flat_map spelled parts) ≡ Some parts
+found_parts : (parts : List Part) → list_all is_operation parts ≡ true → parts_of (flat_map part_bytes parts) ≡ Some parts
 found_parts [] all = refl
 found_parts (part ∷ parts) all =
     grind (arith, (found_parts parts (and_parts (is_operation part) (list_all is_operation parts) all).1), append_assoc, parts_cut, digits_no_letters)
@@ -120,22 +120,22 @@ division_found text parts p = ap (option_and_then each_operation) (parts_found t
 
 -- the parts that are found_parts are all bytes of the text
 letter_whole : (byte : ℕ) (bytes : List ℕ) (found_parts : Option (List Part)) (parts : List Part) → with_part (record { digits = []; letter = byte }) found_parts ≡ Some parts
-    → ((others : List Part) → found_parts ≡ Some others → flat_map spelled others ≡ bytes) → flat_map spelled parts ≡ byte ∷ bytes
+    → ((others : List Part) → found_parts ≡ Some others → flat_map part_bytes others ≡ bytes) → flat_map part_bytes parts ≡ byte ∷ bytes
 letter_whole byte bytes found_parts parts e h = grind arith
 
 byte_whole : (byte : ℕ) (bytes : List ℕ) (found_parts : Option (List Part)) (parts : List Part) → onto_part byte found_parts ≡ Some parts
-    → ((others : List Part) → found_parts ≡ Some others → flat_map spelled others ≡ bytes) → flat_map spelled parts ≡ byte ∷ bytes
+    → ((others : List Part) → found_parts ≡ Some others → flat_map part_bytes others ≡ bytes) → flat_map part_bytes parts ≡ byte ∷ bytes
 byte_whole byte bytes None parts e h = cc
 byte_whole byte bytes (Some []) parts e h = cc
 byte_whole byte bytes (Some (part ∷ others)) parts e h = grind (arith, (h (part ∷ others) refl))
 
 whole_by : (byte : ℕ) (bytes : List ℕ) (b : Bool) (parts : List Part) → cond b (with_part (record { digits = []; letter = byte }) (parts_of bytes)) (onto_part byte (parts_of bytes)) ≡ Some parts
-    → ((others : List Part) → parts_of bytes ≡ Some others → flat_map spelled others ≡ bytes) → flat_map spelled parts ≡ byte ∷ bytes
+    → ((others : List Part) → parts_of bytes ≡ Some others → flat_map part_bytes others ≡ bytes) → flat_map part_bytes parts ≡ byte ∷ bytes
 whole_by byte bytes true parts e h = letter_whole byte bytes (parts_of bytes) parts e h
 whole_by byte bytes false parts e h = byte_whole byte bytes (parts_of bytes) parts e h
 
-whole : (text : List ℕ) (parts : List Part) → parts_of text ≡ Some parts → flat_map spelled parts ≡ text
-whole [] parts e = let is : [] ≡ parts = cc in ap (flat_map spelled) (sym is)
+whole : (text : List ℕ) (parts : List Part) → parts_of text ≡ Some parts → flat_map part_bytes parts ≡ text
+whole [] parts e = let is : [] ≡ parts = cc in ap (flat_map part_bytes) (sym is)
 whole (byte ∷ bytes) parts e = whole_by byte bytes (is_letter byte) parts e (λ others h. whole bytes others h)
 
 -- each ends with a letter
@@ -168,8 +168,8 @@ divided text operations e = grind (arith, whole, each_is, lettered)
 -- Lemmas on what is written early of masked sequences.
 
 module _ (how : MaskHow) (names : List (List ℕ)) (second : Good Feature) where
-  late_decided : (line : SequenceLine) (seen more : List Feature) → items_in second ≡ seen ++ more → decided line seen ≡ true → decided line (items_in second) ≡ true
-  late_decided line seen more is e = ap (decided line) is ∙ decided_stays line seen more e
+  late_decided : (line : SequenceLine) (seen more : List Feature) → items_in second ≡ seen ++ more → line_decided line seen ≡ true → line_decided line (items_in second) ≡ true
+  late_decided line seen more is e = ap (line_decided line) is ∙ decided_stays line seen more e
 
   all_stay : (first : List SequenceLine) (seen more : List Feature) → items_in second ≡ seen ++ more → AreInBlocks (seen ++ more)
       → AllByRecursion (StaysDecided (early_mask_rule how seen) (mask_rule how names second)) first

@@ -5,15 +5,15 @@ use Rattle.bt_bed.specs.model.Sorted.{Locus, locus_of}
 use Rattle.bt_bed.specs.calls.Orders.{ArePlaced, IsPlacedBefore, IsUpTo, IsTotal, AreDistinct}
 use Rattle.bt_bed.specs.model.Order.{Order, is_among, rank_order}
 use Rattle.bt_bed.proofs.lemmas.order.OrderLemmas.{placed_contiguous}
-use Rattle.bt_runs.specs.model.Merged.{StrandRun, is_in, places_of, strand_runs, in_order as runs_in_order, put_in_order}
-use Rattle.bt_runs.specs.calls.MergedRuns.{AreTaken}
+use Rattle.bt_runs.specs.model.Merged.{StrandRun, is_in, places_of, strand_runs, ordered_names as runs_in_order, put_in_order}
+use Rattle.bt_runs.specs.calls.MergedRuns.{AreMergeable}
 use Rattle.bt_laws.specs.Merges.{first_place, first_start, strand_runs_come_in_order, strand_runs_come_in_turn, strand_runs_start_with_records}
 use Rattle.bt_runs.specs.inside.merge.StrandStep.{run_from}
 use Rattle.bt_runs.proofs.lemmas.Lists.{Some_of, all_and, all_both, all_map, all_so, none_each, some_weaker, map_same, map_map}
 use Rattle.bt_runs.proofs.lemmas.order.FileOrder.{skips, in_file_order, ordered_come}
 use Rattle.bt_runs.proofs.lemmas.merge.StrandListing.{joined_to, new_run, reaches, IsWithinOrFar, Lies, Listed, are_listed, lies_true, listing_next, not_in_new, same_in, some_base, up}
 use Rattle.bt_runs.proofs.lemmas.merge.SettledRuns.{taken_front}
-use Rattle.bt_laws.specs.Runs.{AreAscending, AreKnown, names_come_in_order, file_runs_are_ordered}
+use Rattle.bt_laws.specs.Runs.{AreSortedNames, AreKnown, names_come_in_order, file_runs_are_ordered}
 use Rattle.bt_bed.specs.inside.RankTotal.{ranks_total}
 
 -- the first element that passes
@@ -73,7 +73,7 @@ record Firsts (gap : ℕ) (past : List Feature) : Type 0 where
   start : AllByRecursion (λ item. first_start past item ≡ Some (locus_of item.run)) (strand_runs gap past)
 
 module _ (gap : ℕ) (past : List Feature) (r : Feature)
-    (taken : AreTaken (past ++ r ∷ [])) (listed : Listed gap past) where
+    (taken : AreMergeable (past ++ r ∷ [])) (listed : Listed gap past) where
   abbrev old : List StrandRun
   old = strand_runs gap past
 
@@ -186,29 +186,29 @@ unfolding strand_runs
 firsts_none gap = record { rise = tt; start = tt }
 
 module _ (gap : ℕ) where
-  firsts_more : (past more : List Feature) → AreTaken (past ++ more) → Firsts gap past
+  firsts_more : (past more : List Feature) → AreMergeable (past ++ more) → Firsts gap past
       → Firsts gap (past ++ more)
   firsts_more past [] t f = subst (Firsts gap) (sym (append-nil past)) f
   firsts_more past (r ∷ rs) t f =
       let grown : (past ++ r ∷ []) ++ rs ≡ past ++ r ∷ rs = append_assoc past (r ∷ []) rs in
-      let all = subst AreTaken (sym grown) t in
+      let all = subst AreMergeable (sym grown) t in
       let next = taken_front (past ++ r ∷ []) rs all in
       grind (arith, (firsts_more (past ++ r ∷ []) rs all (firsts_next gap past r next (are_listed gap past (taken_front past (r ∷ []) next)) f)))
 
-  firsts : (records : List Feature) → AreTaken records → Firsts gap records
+  firsts : (records : List Feature) → AreMergeable records → Firsts gap records
   firsts records t = firsts_more [] records t (firsts_none gap)
 
   abbrev AreRunsPlaced : Order → List Feature → Type 0
   AreRunsPlaced order records = ArePlaced order (places_of (strand_runs gap records))
 
   placed_more : (order : Order) (total : IsTotal order) (past more : List Feature)
-      → AreTaken (past ++ more)
+      → AreMergeable (past ++ more)
       → ArePlaced order (places_of (strand_runs gap past) ++ intervals_of more)
       → AreRunsPlaced order (past ++ more)
   placed_more order total past [] t p = grind (arith, append-nil)
   placed_more order total past (r ∷ rs) t p =
       let grown : (past ++ r ∷ []) ++ rs ≡ past ++ r ∷ rs = append_assoc past (r ∷ []) rs in
-      let all = subst AreTaken (sym grown) t in
+      let all = subst AreMergeable (sym grown) t in
       let next = taken_front (past ++ r ∷ []) rs all in
       let listed = are_listed gap past (taken_front past (r ∷ []) next) in
       grind (arith, (placed_more order total (past ++ r ∷ []) rs all (placed_next gap past r next listed order total (intervals_of rs) p)))
@@ -251,11 +251,11 @@ module _ (order : Order) where
   among_order x (n ∷ ns) = among_put n x (runs_in_order order ns) ∙ ap (λ b. bytes_eq n x || b) (among_order x ns)
 
   ascending_put : IsTotal order → (name : List ℕ) (ns : List (List ℕ)) → IsTrue (order.knows name) → AreKnown order ns
-      → is_among ns name ≡ false → AreAscending order ns → AreAscending order (put_in_order order name ns)
+      → is_among ns name ≡ false → AreSortedNames order ns → AreSortedNames order (put_in_order order name ns)
   ascending_put total name [] one known none old = (tt, tt)
   ascending_put total name (n ∷ ns) one known none old = grind (arith, (ascending_put total name ns one known.1 (or_parts (bytes_eq n name) (is_among ns name) none).1 old.1), rules)
 
-  ascending_order : IsTotal order → (ns : List (List ℕ)) → AreKnown order ns → AreDistinct ns → AreAscending order (runs_in_order order ns)
+  ascending_order : IsTotal order → (ns : List (List ℕ)) → AreKnown order ns → AreDistinct ns → AreSortedNames order (runs_in_order order ns)
   ascending_order total [] known distinct = tt
   ascending_order total (n ∷ ns) known distinct = grind (arith, (ascending_order total ns known.1 distinct.1), ascending_put, (ordered_all (λ name. IsTrue (order.knows name)) order ns known.1), among_order)
 

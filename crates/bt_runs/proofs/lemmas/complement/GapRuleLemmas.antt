@@ -9,22 +9,22 @@ use Rattle.bt_bed.specs.model.Order.{rank_order, rank_of}
 use Rattle.bt_bed.specs.calls.Orders.{AreDistinct}
 use Rattle.bt_bed.specs.model.Sorted.{has_records, Locus}
 use Rattle.bt_runs.specs.model.Gaps.{gaps_of, gaps_on, is_asked, is_over, complement, settled_gaps}
-use Rattle.bt_runs.specs.inside.Walk.{AreReached, Place, left_before, places, Does, EnterAnswers, FitsPast, PutsRestAtEnd, IsNamed, IsPlaced, entry_at, going, is_on, walk_step}
+use Rattle.bt_runs.specs.inside.Walk.{AreReached, Place, left_before, places, Does, EnterAnswers, FitsPast, PutsRestAtEnd, IsNamed, IsRanked, entry_at, going, is_reached, walk_step}
 use Rattle.bt_runs.specs.inside.GapStep.{bare_gap, gap_between, gap_walk, last_gap}
 use Rattle.bt_runs.proofs.lemmas.definitions.Standing.{has_records-push, compare_same, apart, found}
 use Rattle.bt_runs.proofs.lemmas.Lists.{filter_map_all, filter_map_none}
 use Rattle.bt_runs.proofs.lemmas.order.FileOrder.{spans_on-push_elsewhere, spans_on-none, spans_on-push_here}
 use Rattle.bt_runs.proofs.lemmas.complement.Walks.{OneGap, one_gaps, span_between, EndBy, cover_gap, end_both, end_later, Walked, form_of, Held, Steps, ends, rank_entry, reaches, settles_items, steps, taken_front, entered_steps, going_to, step_starts}
 use Rattle.bt_runs.proofs.lemmas.order.ByChromosome.{Divides, Owes, Written, intervals_next, name_at, size_there, found_at, found_entry, size_ranked}
-use Rattle.bt_runs.specs.calls.Engine.{Settles, AfterEach}
+use Rattle.bt_runs.specs.calls.Engine.{SettlesMore, AfterEach}
 use Rattle.bt_lines.specs.calls.Names.{fault_value}
 use Rattle.bt_lines.specs.calls.Output.{Output, Adds, FailsToAdd, Grown}
 use Rattle.bt_lines.specs.declared.fault.Fault.{Fault}
 use Rattle.bt_lines.proofs.lemmas.Writer.{grown_none}
 use Rattle.bt_bed.specs.calls.GenomeTable.{entries}
 use Rattle.bt_bed.proofs.lemmas.parse.NameLemmas.{name_eq, name_ne, same_name}
-use Rattle.bt_runs.specs.calls.Complementing.{Complementing, IsAfter, complementing, kept_in, settled_lines, AreTaken, kept_place, length_in}
-use Rattle.bt_runs.specs.inside.GapRule.{Covers, seen, IsOnChrom, complement_at, gap_rule, next_lines}
+use Rattle.bt_runs.specs.calls.Complementing.{Complementing, IsAfter, complementing, kept_in, settled_lines, AreInGenomeOrder, kept_place, length_in}
+use Rattle.bt_runs.specs.inside.GapRule.{Covers, seen, StandsOnChrom, complement_at, gap_rule, next_gap_lines}
 use Rattle.bt_runs.specs.declared.complement.gap_cursor.GapCursor.{GapCursor}
 use Rattle.bt_runs.proofs.lemmas.Engine.{enters, enters_cut, none_more}
 
@@ -146,21 +146,21 @@ module _ (limit : Bool) (entries : List Entry) where
   held_kept past current distinct none = grind (arith, rank_entry, apart, size_there)
 
   -- a complement whose place is the one that is kept has reached the last record's chromosome
-  held_is : (past : List Feature) (current : Option (Place ℕ)) → AreTaken entries past → AreReached entries current → shown_place entries current ≡ kept_place entries past → Held (gaps limit entries) Own entries past current
+  held_is : (past : List Feature) (current : Option (Place ℕ)) → AreInGenomeOrder entries past → AreReached entries current → shown_place entries current ≡ kept_place entries past → Held (gaps limit entries) Own entries past current
   held_is past current t at same =
       let other = reaches (gaps limit entries) Own entries (owes limit entries) (written limit entries) past t in
       grind (arith, held_kept)
 
   -- so one more record moves it as its walk does, and at the end its walk's rest is left
-  pub moves : (past : List Feature) (r : Feature) (current : Option (Place ℕ)) → AreTaken entries (past ++ r ∷ []) → AreReached entries current → shown_place entries current ≡ kept_place entries past → Steps (gaps limit entries) Own entries past r current
+  pub moves : (past : List Feature) (r : Feature) (current : Option (Place ℕ)) → AreInGenomeOrder entries (past ++ r ∷ []) → AreReached entries current → shown_place entries current ≡ kept_place entries past → Steps (gaps limit entries) Own entries past r current
   moves past r current t at same = steps (gaps limit entries) Own entries (owes limit entries) (written limit entries) past r current t (held_is past current (taken_front entries past (r ∷ []) t) at same)
 
-  pub leaves : (past : List Feature) (current : Option (Place ℕ)) → AreTaken entries past → AreReached entries current → shown_place entries current ≡ kept_place entries past
+  pub leaves : (past : List Feature) (current : Option (Place ℕ)) → AreInGenomeOrder entries past → AreReached entries current → shown_place entries current ≡ kept_place entries past
       → complement limit entries past ≡ settled_gaps limit entries past ++ left_before last_gap (bare_gap limit) entries current (length entries)
   leaves past current t at same = ends (gaps limit entries) Own entries (owes limit entries) (written limit entries) past current t.distinct (held_is past current t at same)
 
   -- more and more gaps are settled
-  pub settles_gaps : Settles (settled_gaps limit entries) (complement limit entries) (AreTaken entries)
+  pub settles_gaps : SettlesMore (settled_gaps limit entries) (complement limit entries) (AreInGenomeOrder entries)
   settles_gaps = settles_items (gaps limit entries) Own entries (owes limit entries) (written limit entries)
 
 -- What the rule of a complement does with a record: by the step of its walk, and so after every past.
@@ -180,11 +180,11 @@ pub on_found : (table : List Entry) (name : List ℕ) (rank : ℕ) → rank_of (
 on_found table name rank is = grind (arith, name_eq, (found_entry table name rank (found name_at table name rank is)))
 
 -- one that was reached is the one of a name, if that is its name
-module _ (table : List Entry) (place : Place ℕ) (at : IsPlaced table place.rank) (name : List ℕ) where
-  rank_on : is_on table (Some place) name ≡ true → rank_of (genome_names table) name ≡ Some place.rank
+module _ (table : List Entry) (place : Place ℕ) (at : IsRanked table place.rank) (name : List ℕ) where
+  rank_on : is_reached table (Some place) name ≡ true → rank_of (genome_names table) name ≡ Some place.rank
   rank_on on = ap (rank_of (genome_names table)) (sym (same_name (entry_at table place.rank).name name on)) ∙ at.named
 
-  pub not_on : (rank_of (genome_names table) name ≡ Some place.rank → ⊥) → is_on table (Some place) name ≡ false
+  pub not_on : (rank_of (genome_names table) name ≡ Some place.rank → ⊥) → is_reached table (Some place) name ≡ false
   not_on other = name_ne (entry_at table place.rank).name name (λ e. other (ap (rank_of (genome_names table)) (sym e) ∙ at.named))
 
 abbrev place_at : ℕ → Option ℕ → Option (Place ℕ)
@@ -197,7 +197,7 @@ module _ (limit : Bool) (table : List Entry) (r : Feature) (name : List ℕ) (en
   nothing rank none = grind arith
 
   pub step_at : (rank : Option ℕ) → ((n : ℕ) → rank ≡ Some n → IsNamed table n name)
-      → (is_on table (place_at end rank) r.chrom ≡ true) ⊎ (rank_of (genome_names table) r.chrom ≡ None)
+      → (is_reached table (place_at end rank) r.chrom ≡ true) ⊎ (rank_of (genome_names table) r.chrom ≡ None)
       → walk_step (gap_walk limit) table (place_at end rank) r ≡ (place_at (max end (min r.stop bases)) rank, gap_between name end (min r.start bases))
   step_at None named (inl on) = absurd (cc)
   step_at None named (inr none) = grind (arith, no_bases)
@@ -223,7 +223,7 @@ module _ (old : Complementing) (at : AreReached old.entries old.current) where
   -- what is done with a record exactly is done after every past
   pub fits : (r : Feature) → FitsPast gap_rule old r
   fits r =
-      let settles : AfterEach complementing old r (λ first past. settled_lines first (past ++ r ∷ []) ≡ settled_lines first past ++ next_lines old r) = λ first past stands taken.
+      let settles : AfterEach complementing old r (λ first past. settled_lines first (past ++ r ∷ []) ≡ settled_lines first past ++ next_gap_lines old r) = λ first past stands taken.
       let s = same first past stands in
       rw (s.same_entries, s.same_limit) (ap interval_lines (moves old.limit old.entries past r old.current (rw s.same_entries at taken) at s.kept).settles
       ∙ flat_map-append interval_line (settled_gaps old.limit old.entries past) (walk_step (gap_walk old.limit) old.entries old.current r).1) in
@@ -237,7 +237,7 @@ module _ (old : Complementing) (at : AreReached old.entries old.current) where
               same_limit = sym s.same_limit;
               kept = rw s.same_entries (held_kept old.limit old.entries (past ++ r ∷ []) _ more.distinct (moves old.limit old.entries past r old.current more at s.kept).held);
             });
-        quiet = λ first past stands taken q. (none_more (settled_lines first past) (next_lines old r) _ (settles first past stands taken) q.settles, λ wanted. wanted);
+        quiet = λ first past stands taken q. (none_more (settled_lines first past) (next_gap_lines old r) _ (settles first past stands taken) q.settles, λ wanted. wanted);
       }
 
   -- the lines that are left
@@ -266,10 +266,10 @@ module _ (old : Complementing) (at : AreReached old.entries old.current) where
 
     module _ (place : Place ℕ) (items : List Interval) (goes : going (gap_walk old.limit) old.entries old.current chrom ≡ (Some place, items)) where
       -- the next one, after what is left before it
-      pub enters_next : (bases : ℕ) (mid : Output) → is_on old.entries (Some place) chrom ≡ true → Grown out (interval_lines items) mid
+      pub enters_next : (bases : ℕ) (mid : Output) → is_reached old.entries (Some place) chrom ≡ true → Grown out (interval_lines items) mid
           → Enters (Ok tt) (record { entries = old.entries; limit = old.limit; current = Some place; bases = bases }) mid
       enters_next bases mid here p =
-          let steps = λ (r : Feature) (on : r.chrom ≡ chrom). entered_steps (gap_walk old.limit) old.entries old.current r place items (ap (going (gap_walk old.limit) old.entries old.current) on ∙ goes) (ap (is_on old.entries (Some place)) on ∙ here) in
+          let steps = λ (r : Feature) (on : r.chrom ≡ chrom). entered_steps (gap_walk old.limit) old.entries old.current r place items (ap (going (gap_walk old.limit) old.entries old.current) on ∙ goes) (ap (is_reached old.entries (Some place)) on ∙ here) in
           enters fits (interval_lines items) {mid = record { entries = old.entries; limit = old.limit; current = Some place; bases = bases }} p
           (λ r on. ap interval_lines (steps r on).1 ∙ flat_map-append interval_line items (walk_step (gap_walk old.limit) old.entries (Some place) r).1)
           (λ r on new is. is ∙ ap (λ (current : Option (Place ℕ)). record { entries = old.entries; limit = old.limit; current = current; bases = length_in old.entries r.chrom }) (sym (steps r on).0))
@@ -283,7 +283,7 @@ module _ (old : Complementing) (at : AreReached old.entries old.current) where
           (interval_lines starts.0, ap interval_lines (starts.1 ∙ ap (λ s. s.1 ++ starts.0) way) ∙ flat_map-append interval_line items starts.0))
 
 -- a cursor takes a record on its chromosome
-module _ (limit : Bool) (old : GapCursor) (r : Feature) (on : IsOnChrom (complement_at limit old) r.chrom) where
+module _ (limit : Bool) (old : GapCursor) (r : Feature) (on : StandsOnChrom (complement_at limit old) r.chrom) where
   step_is : walk_step (gap_walk limit) (entries old.genome.now) (seen old) r ≡ (place_at (max old.end (min r.stop old.length)) old.rank, gap_between old.name.now old.end (min r.start old.length))
   step_is = step_at limit (entries old.genome.now) r old.name.now old.end old.length on.bases old.rank old.named on.at
 
@@ -307,17 +307,17 @@ module _ (limit : Bool) (cursor : GapCursor) (chrom : List ℕ) where
   on_chrom current bases = record { entries = table; limit = limit; current = current; bases = bases }
 
   -- one that the genome file lacks
-  pub lacks_chrom : rank_of (genome_names table) chrom ≡ None → IsOnChrom (on_chrom (seen cursor) 0) chrom
+  pub lacks_chrom : rank_of (genome_names table) chrom ≡ None → StandsOnChrom (on_chrom (seen cursor) 0) chrom
   lacks_chrom none = record { bases = sym (no_bases table chrom none); at = inr none }
 
   module _ (rank : ℕ) (is : rank_of (genome_names table) chrom ≡ Some rank) where
     -- the one that was reached
-    pub has_chrom : (end bases : ℕ) (current : Option (Place ℕ)) → current ≡ place_at end (Some rank) → (entry_at table rank).length ≡ bases → IsOnChrom (on_chrom current bases) chrom
+    pub has_chrom : (end bases : ℕ) (current : Option (Place ℕ)) → current ≡ place_at end (Some rank) → (entry_at table rank).length ≡ bases → StandsOnChrom (on_chrom current bases) chrom
     has_chrom end bases current here size = grind (arith, size_ranked, on_found)
 
     -- another one
     pub goes_other : (cursor.rank ≡ Some rank → ⊥) → going (gap_walk limit) table (seen cursor) chrom ≡ (place_at 0 (Some rank), left_before last_gap (bare_gap limit) table (seen cursor) rank)
     goes_other other = going_to (gap_walk limit) table (seen cursor) chrom (Some rank) (search rules) (sym is)
 
-    pub rank_placed : IsPlaced table rank
+    pub rank_placed : IsRanked table rank
     rank_placed = found_at table chrom rank is

@@ -7,9 +7,9 @@ use Rattle.bt_bed.specs.model.Order.{rank_of}
 use Rattle.bt_bed.specs.calls.Orders.{AreDistinct}
 use Rattle.bt_bed.proofs.lemmas.parse.NameLemmas.{name_eq}
 use Rattle.bt_runs.specs.model.Gaps.{gaps_of}
-use Rattle.bt_runs.specs.calls.Complementing.{AreTaken, IsBare}
-use Rattle.bt_runs.specs.calls.Engine.{Settles}
-use Rattle.bt_runs.specs.inside.Walk.{AreReached, Place, Walk, entry_at, going, going_at, is_on, left_before, step_from, taking, walk_step}
+use Rattle.bt_runs.specs.calls.Complementing.{AreInGenomeOrder, IsBare}
+use Rattle.bt_runs.specs.calls.Engine.{SettlesMore}
+use Rattle.bt_runs.specs.inside.Walk.{AreReached, Place, Walk, entry_at, going, going_at, is_reached, left_before, step_from, taking, walk_step}
 use Rattle.bt_runs.proofs.lemmas.order.ByChromosome.{Begun, Form, InOrder, Moves, Owes, Standing, Written, begun, full_last, goes_first, goes_next, goes_on, goes_to, order_front, settling, whole_left, entry_there, name_at}
 use Rattle.bt_runs.proofs.lemmas.definitions.Standing.{GoesTo, begins_at, last_rank}
 use Rattle.bt_runs.specs.model.Merged.{is_covered, end_of}
@@ -39,10 +39,10 @@ form_of e = record {
 }
 
 -- the records that it may take
-pub in_order : (entries : List Entry) (past : List Feature) → AreTaken entries past → InOrder (genome_names entries) past
+pub in_order : (entries : List Entry) (past : List Feature) → AreInGenomeOrder entries past → InOrder (genome_names entries) past
 in_order entries past t = record { placed = t.placed; full = t.full }
 
-pub taken_front : (entries : List Entry) (past more : List Feature) → AreTaken entries (past ++ more) → AreTaken entries past
+pub taken_front : (entries : List Entry) (past more : List Feature) → AreInGenomeOrder entries (past ++ more) → AreInGenomeOrder entries past
 taken_front entries past more t = grind (arith, (order_front (genome_names entries) past more (in_order entries (past ++ more) t)))
 
 -- the chromosome of a rank among the others
@@ -58,10 +58,10 @@ slice_behind entries before key middle rest rank stop split at end =
 
 module _ {T S : Type 0} (walk : Walk T S) (entries : List Entry) where
   -- the chromosome of a name is the one that was reached, or another
-  pub going_on : (current : Option (Place S)) (name : List ℕ) → is_on entries current name ≡ true → going walk entries current name ≡ (current, [])
+  pub going_on : (current : Option (Place S)) (name : List ℕ) → is_reached entries current name ≡ true → going walk entries current name ≡ (current, [])
   going_on current name e = rw e refl
 
-  pub going_to : (current : Option (Place S)) (name : List ℕ) (rank : Option ℕ) → is_on entries current name ≡ false → rank ≡ rank_of (genome_names entries) name → going walk entries current name ≡ going_at walk entries current rank
+  pub going_to : (current : Option (Place S)) (name : List ℕ) (rank : Option ℕ) → is_reached entries current name ≡ false → rank ≡ rank_of (genome_names entries) name → going walk entries current name ≡ going_at walk entries current rank
   going_to current name rank e is = rw (e, is) refl
 
   -- what is settled on the way comes first, and then what the record settles where it lies
@@ -77,7 +77,7 @@ module _ {T S : Type 0} (walk : Walk T S) (entries : List Entry) where
   step_goes current r place items is = rw is refl
 
   -- once another chromosome is reached, a record on it settles what is left
-  pub entered_steps : (current : Option (Place S)) (r : Feature) (place : Place S) (items : List T) → going walk entries current r.chrom ≡ (Some place, items) → is_on entries (Some place) r.chrom ≡ true
+  pub entered_steps : (current : Option (Place S)) (r : Feature) (place : Place S) (items : List T) → going walk entries current r.chrom ≡ (Some place, items) → is_reached entries (Some place) r.chrom ≡ true
       → ((walk_step walk entries current r).0 ≡ (walk_step walk entries (Some place) r).0) × ((walk_step walk entries current r).1 ≡ items ++ (walk_step walk entries (Some place) r).1)
   entered_steps current r place items goes on = rw (step_goes current r place items goes, step_goes (Some place) r place [] (going_on (Some place) r.chrom on)) (refl, refl)
 
@@ -105,7 +105,7 @@ module _ {T S : Type 0} (e : Walked T S) (Own : Entry → List Feature → ℕ �
     arrive past r current place before key after first rank goes m = grind (arith, rank_entry)
 
     -- the first record
-    step_first : (r : Feature) → AreTaken entries (r ∷ []) → Steps [] r None
+    step_first : (r : Feature) → AreInGenomeOrder entries (r ∷ []) → Steps [] r None
     step_first r t =
         let first = begins_at name_at entries t.distinct (interval_of r) t.placed in
         let k = first.0 in
@@ -117,14 +117,14 @@ module _ {T S : Type 0} (e : Walked T S) (Own : Entry → List Feature → ℕ �
         arrive [] r None place f.before f.key f.after (flat_map e.walk.bare f.before) (sym f.at) goes
         (goes_first (form_of e) Own entries owes t.distinct r f.before f.key f.after first.3 (full_last [] r t.full))
 
-    module _ (past : List Feature) (r : Feature) (t : AreTaken entries (past ++ r ∷ [])) (place : Place S) (before : List Entry) (key : Entry) (after : List Entry) (s : Standing (form_of e) Own entries past before key after place.known) (rank : place.rank ≡ length before) where
+    module _ (past : List Feature) (r : Feature) (t : AreInGenomeOrder entries (past ++ r ∷ [])) (place : Place S) (before : List Entry) (key : Entry) (after : List Entry) (s : Standing (form_of e) Own entries past before key after place.known) (rank : place.rank ≡ length before) where
       abbrev is : entry_at entries place.rank ≡ key
       is = rank_entry entries before key after place.rank s.stand.split rank
 
       -- on the chromosome of the last record
       step_on : r.chrom ≡ s.last.chrom → s.last.start ≤ r.start → Steps past r (Some place)
       step_on same up =
-          let on : is_on entries (Some place) r.chrom ≡ true = name_eq _ r.chrom (ap (λ (e : Entry). e.name) is ∙ s.stand.is ∙ sym same) in
+          let on : is_reached entries (Some place) r.chrom ≡ true = name_eq _ r.chrom (ap (λ (e : Entry). e.name) is ∙ s.stand.is ∙ sym same) in
           arrive past r (Some place) place before key after [] rank (going_on e.walk entries (Some place) r.chrom on)
           (goes_on (form_of e) Own entries owes t.distinct r s same up (full_last past r t.full))
 
@@ -132,15 +132,15 @@ module _ {T S : Type 0} (e : Walked T S) (Own : Entry → List Feature → ℕ �
       step_to : GoesTo name_at entries (intervals_of past) (interval_of r) before key after → Steps past r (Some place)
       step_to g =
           let k = length (before ++ key ∷ g.middle) in
-          let off : is_on entries (Some place) r.chrom ≡ false = rw is g.other in
+          let off : is_reached entries (Some place) r.chrom ≡ false = rw is g.other in
           let slice : slice_range entries (place.rank + 1) k ≡ g.middle = slice_behind entries before key g.middle (g.next ∷ g.behind) place.rank k (s.stand.split ∙ ap (λ l. before ++ key ∷ l) g.rest) rank refl in
           let next : Place S = record { rank = k; known = e.walk.fresh } in
           let first = e.walk.left key place.known ++ flat_map e.walk.bare g.middle in
           let goes : going e.walk entries (Some place) r.chrom ≡ (Some next, first) = going_to e.walk entries (Some place) r.chrom (Some k) off (sym g.rank) ∙ ap₂ (λ (key : Entry) (es : List Entry). (Some next, e.walk.left key place.known ++ flat_map e.walk.bare es)) is slice in
           arrive past r (Some place) next (before ++ key ∷ g.middle) g.next g.behind first refl goes (goes_to (form_of e) Own entries owes t.distinct r s g (full_last past r t.full))
 
-    pub steps : (past : List Feature) (r : Feature) (current : Option (Place S)) → AreTaken entries (past ++ r ∷ []) → Held past current → Steps past r current
-    steps past r None t none = subst (λ (l : List Feature). Steps l r None) (sym none) (step_first r (subst (λ (l : List Feature). AreTaken entries (l ++ r ∷ [])) none t))
+    pub steps : (past : List Feature) (r : Feature) (current : Option (Place S)) → AreInGenomeOrder entries (past ++ r ∷ []) → Held past current → Steps past r current
+    steps past r None t none = subst (λ (l : List Feature). Steps l r None) (sym none) (step_first r (subst (λ (l : List Feature). AreInGenomeOrder entries (l ++ r ∷ [])) none t))
     steps past r (Some place) t (before, key, after, s, rank) =
         elim (goes_next (form_of e) Own entries owes t.distinct r s (in_order entries (past ++ r ∷ []) t)) [
           | inl same ↦ step_on past r t place before key after s rank same.0 same.1
@@ -157,12 +157,12 @@ module _ {T S : Type 0} (e : Walked T S) (Own : Entry → List Feature → ℕ �
         ∙ ap₂ (λ (key : Entry) (es : List Entry). e.settled past ++ (e.walk.left key place.known ++ flat_map e.walk.bare es)) (sym is) (sym slice)
 
     -- something is reached after records in order
-    pub reaches : (past : List Feature) → AreTaken entries past → (current : Option (Place S)) × Held past current × AreReached entries current
+    pub reaches : (past : List Feature) → AreInGenomeOrder entries past → (current : Option (Place S)) × Held past current × AreReached entries current
     reaches past t = grind (arith, (held_begun past (begun (form_of e) Own entries owes t.distinct past (in_order entries past t))), rank_entry, length-append, last_rank)
 
     -- more and more is settled
-    pub settles_items : Settles e.settled e.whole (AreTaken entries)
-    settles_items = settling (form_of e) Own (AreTaken entries) (taken_front entries) (λ all t. record {
+    pub settles_items : SettlesMore e.settled e.whole (AreInGenomeOrder entries)
+    settles_items = settling (form_of e) Own (AreInGenomeOrder entries) (taken_front entries) (λ all t. record {
       keys = entries;
       owes = owes;
       distinct = t.distinct;

@@ -14,13 +14,13 @@ use Rattle.bt_runs.specs.inside.Coverage.{Known, depth_walk, known_by, levels_by
 use Rattle.bt_runs.proofs.lemmas.order.ByChromosome.{Divides, Owes, Written, found_at, size_there, size_ranked, found_entry, name_at}
 use Rattle.bt_runs.proofs.lemmas.coverage.OpenLemmas.{counted_elsewhere, counted_append, counted_none, bare_levels, known_at, known_first, known_next, left_end, settled_and_left, settled_at, settled_end, settled_first, settled_next, with_counted, across_known, none_open, all_open, walk_depth}
 use Rattle.bt_runs.specs.model.Gaps.{is_over_at}
-use Rattle.bt_runs.specs.calls.Complementing.{AreTaken}
+use Rattle.bt_runs.specs.calls.Complementing.{AreInGenomeOrder}
 use Rattle.bt_runs.proofs.lemmas.definitions.Standing.{compare_same, apart, found}
 use Rattle.bt_runs.proofs.lemmas.Lists.{filter_map_all, filter_map_none}
 use Rattle.bt_runs.proofs.lemmas.coverage.LevelLemmas.{StopIn, scan_run, scan_split}
 use Rattle.bt_runs.proofs.lemmas.complement.Walks.{Walked, form_of, Held, Steps, ends, reaches, settles_items, steps, rank_entry, taken_front}
-use Rattle.bt_runs.specs.calls.Engine.{Settles, fault_of}
-use Rattle.bt_runs.specs.inside.Walk.{AreReached, Place, is_on, left_before, places, taking, Does, EnterAnswers, FitsPast, PutsRestAtEnd, IsPlaced, entry_at}
+use Rattle.bt_runs.specs.calls.Engine.{SettlesMore, fault_of}
+use Rattle.bt_runs.specs.inside.Walk.{AreReached, Place, is_reached, left_before, places, taking, Does, EnterAnswers, FitsPast, PutsRestAtEnd, IsRanked, entry_at}
 use Rattle.bt_lines.proofs.lemmas.Writer.{grown_none, line_alone, adds_lines, cut_lines}
 use Rattle.bt_lines.specs.calls.Output.{Output, Adds, FailsToAdd, Grown, Puts}
 use Rattle.bt_lines.specs.calls.Names.{fault_value}
@@ -120,10 +120,10 @@ module _ (zeros : Bool) (strand : Option Strand) (entries : List Entry) where
   abbrev pub Reaches : List Feature → Option (Place Known) → Type 0
   Reaches past current = Held (depths zeros strand entries) (Own zeros strand) entries past current
 
-  pub reached : (past : List Feature) → AreTaken entries past → (current : Option (Place Known)) × Reaches past current × AreReached entries current
+  pub reached : (past : List Feature) → AreInGenomeOrder entries past → (current : Option (Place Known)) × Reaches past current × AreReached entries current
   reached past t = reaches (depths zeros strand entries) (Own zeros strand) entries (owes zeros strand entries) (written zeros strand entries) past t
 
-  pub moves : (past : List Feature) (r : Feature) (current : Option (Place Known)) → AreTaken entries (past ++ r ∷ []) → Reaches past current → Steps (depths zeros strand entries) (Own zeros strand) entries past r current
+  pub moves : (past : List Feature) (r : Feature) (current : Option (Place Known)) → AreInGenomeOrder entries (past ++ r ∷ []) → Reaches past current → Steps (depths zeros strand entries) (Own zeros strand) entries past r current
   moves past r current t h = steps (depths zeros strand entries) (Own zeros strand) entries (owes zeros strand entries) (written zeros strand entries) past r current t h
 
   pub leaves : (past : List Feature) (current : Option (Place Known)) → AreDistinct (genome_names entries) → Reaches past current
@@ -131,7 +131,7 @@ module _ (zeros : Bool) (strand : Option Strand) (entries : List Entry) where
   leaves past current distinct h = ends (depths zeros strand entries) (Own zeros strand) entries (owes zeros strand entries) (written zeros strand entries) past current distinct h
 
   -- more and more intervals are settled
-  pub settles_depths : Settles (settled_depths zeros strand entries) (coverage zeros strand entries) (AreTaken entries)
+  pub settles_depths : SettlesMore (settled_depths zeros strand entries) (coverage zeros strand entries) (AreInGenomeOrder entries)
   settles_depths = settles_items (depths zeros strand entries) (Own zeros strand) entries (owes zeros strand entries) (written zeros strand entries)
 
 module _ (zeros : Bool) (strand : Option Strand) (entries : List Entry) where
@@ -147,7 +147,7 @@ module _ (zeros : Bool) (strand : Option Strand) (entries : List Entry) where
 
 module _ (zeros : Bool) (strand : Option Strand) (entries : List Entry) where
   -- a coverage that keeps what is to be kept has reached the last record's chromosome
-  held_is : (past : List Feature) (current : Option (Place Known)) → AreTaken entries past → AreReached entries current → places (λ known. known.to) entries current ≡ known_place entries past → begun_of current ≡ unfinished zeros strand entries past → held_of current ≡ kept_records strand entries past
+  held_is : (past : List Feature) (current : Option (Place Known)) → AreInGenomeOrder entries past → AreReached entries current → places (λ known. known.to) entries current ≡ known_place entries past → begun_of current ≡ unfinished zeros strand entries past → held_of current ≡ kept_records strand entries past
       → Reaches zeros strand entries past current
   held_is past current t at p g h =
       let other = reached zeros strand entries past t in
@@ -163,7 +163,7 @@ module _ (old : Covering) where
     same_entries : first.entries ≡ old.entries
     same_zeros : first.zeros ≡ old.zeros
     same_strand : first.strand ≡ old.strand
-    reached : AreTaken old.entries past → Reaches old.zeros old.strand old.entries past old.current
+    reached : AreInGenomeOrder old.entries past → Reaches old.zeros old.strand old.entries past old.current
 
   same : (first : Covering) (past : List Feature) → IsAfter first past old → Same first past
   same first past stands = grind (arith, held_is)
@@ -198,7 +198,7 @@ module _ (old : Covering) where
   counts_none r out off = search rules
 
   -- one of the chromosome that was reached
-  pub step_here : (r : Feature) (place : Place Known) → old.current ≡ Some place → is_on old.entries old.current r.chrom ≡ true
+  pub step_here : (r : Feature) (place : Place Known) → old.current ≡ Some place → is_reached old.entries old.current r.chrom ≡ true
       → depth_step old r ≡ (Some (taking (depth_walk old.zeros old.strand) old.entries place r).0, (taking (depth_walk old.zeros old.strand) old.entries place r).1)
   step_here r place is on = grind arith
 
@@ -209,7 +209,7 @@ module _ (old : Covering) where
       (λ r same new c. record { same_entries = c.same_entries; same_zeros = c.same_zeros; same_strand = c.same_strand; current = c.current; at = c.at }) (λ r same wanted. wanted)
 
   -- another chromosome of the genome file
-  module _ (name : List ℕ) (size : ℕ) (chrom : List ℕ) (rank : ℕ) (off : is_on old.entries old.current chrom ≡ false) (is : Some rank ≡ rank_of (genome_names old.entries) chrom) where
+  module _ (name : List ℕ) (size : ℕ) (chrom : List ℕ) (rank : ℕ) (off : is_reached old.entries old.current chrom ≡ false) (is : Some rank ≡ rank_of (genome_names old.entries) chrom) where
     abbrev pub place_first : Place Known
     place_first = record { rank = rank; known = record { to = 0; begun = None; held = [] } }
 
@@ -219,7 +219,7 @@ module _ (old : Covering) where
     abbrev before : List DepthInterval
     before = left_before (depths_left old.zeros) (bare_of old.zeros) old.entries old.current rank
 
-    pub is_there : is_on old.entries (Some place_first) chrom ≡ true
+    pub is_there : is_reached old.entries (Some place_first) chrom ≡ true
     is_there = grind (arith, name_eq, (found_entry old.entries chrom rank (found name_at old.entries chrom rank (sym is))))
 
     there_steps : (r : Feature) → r.chrom ≡ chrom → ((depth_step old r).0 ≡ (depth_step begun_there r).0) × ((depth_step old r).1 ≡ before ++ (depth_step begun_there r).1)
@@ -267,10 +267,10 @@ pub record IsNext (strand : Option Strand) (r : Feature) (bounds : Bounds) (coun
 -- a record lies on the chromosome that a coverage has reached
 pub record IsOnReached (old : Covering) (place : Place Known) (chrom : List ℕ) (size : ℕ) (r : Feature) : Type 0 where
   pub reached : old.current ≡ Some place
-  pub placed : IsPlaced old.entries place.rank
+  pub placed : IsRanked old.entries place.rank
   pub named : (entry_at old.entries place.rank).name ≡ chrom
   pub sized : (entry_at old.entries place.rank).length ≡ size
-  pub on : is_on old.entries old.current r.chrom ≡ true
+  pub on : is_reached old.entries old.current r.chrom ≡ true
 
 module _ {old : Covering} {place : Place Known} {chrom : List ℕ} {size : ℕ} {r : Feature} (there : IsOnReached old place chrom size r)
     {bounds : Bounds} {counted : Bool} (next : IsNext old.strand r bounds counted) (out : Output) where

@@ -1,7 +1,7 @@
 -- Scans of the positions in parts, scans that see the same values, and where their intervals begin and stop.
 use Rattle.bt_lines.proofs.Std.{◌≡◌, ℕ, zero, suc, ◌+◌, ◌<◌, ◌≤◌, List, [], ◌∷◌, ◌++◌, refl, arith, true, Option, Some, None, ⊤}
 use Rattle.bt_bed.specs.model.Levels.{Level}
-use Rattle.bt_bed.specs.calls.LevelScan.{Begun, begun_after, ended_after, next_begun, next_ended, goes_on}
+use Rattle.bt_bed.specs.calls.LevelScan.{Begun, begun_after, ended_after, next_begun, next_ended, goes_on_with}
 
 -- a scan in two parts
 pub scan_split : (value : ℕ → Option ℕ) (a b p : ℕ) (g : Option Begun) → (begun_after value p (a + b) g ≡ begun_after value (p + a) b (begun_after value p a g))
@@ -22,7 +22,7 @@ scan_same u v zero p g same = (refl, refl)
 scan_same u v (suc n) p g same = grind (arith, (scan_same u v n (p + 1) (next_begun p (v p) g) (λ q low high. same q (omega arith) (omega arith))))
 
 module _ (u : ℕ → Option ℕ) (value : Option ℕ) where
-  scan_on : (n p : ℕ) (g : Option Begun) → ((q : ℕ) → p ≤ q → q < p + n → u q ≡ value) → goes_on g value ≡ true → (begun_after u p n g ≡ g) × (ended_after u p n g ≡ [])
+  scan_on : (n p : ℕ) (g : Option Begun) → ((q : ℕ) → p ≤ q → q < p + n → u q ≡ value) → goes_on_with g value ≡ true → (begun_after u p n g ≡ g) × (ended_after u p n g ≡ [])
   unfolding begun_after ended_after
   scan_on zero p g same on = (refl, refl)
   scan_on (suc n) p g same on = rw (same p (omega arith) (omega arith), on) (scan_on n (p + 1) g (λ q low high. same q (omega arith) (omega arith)) on)

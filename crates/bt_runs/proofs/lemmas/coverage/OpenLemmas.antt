@@ -2,9 +2,9 @@
 use Rattle.bt_lines.proofs.Std.{common_steps, ◌≡◌, ℕ, ◌+◌, ◌<◌, ◌≤◌, inl, inr, List, [], ◌∷◌, ◌++◌, refl, sym, ap, ◌∙◌, arith, All, filter, length, nat_le, not, false, cond, ◌&&◌, nat_lt, slice_index_or, subst, Bool, MatchBool, true, IfSome, IsSome, Option, Some, None, cases_Bool, cases_lt, lt-ltb, le-ltb, le-leb, map-append, length-filter_both, All-filter, All-head, All-nil, All-tail, All-weaker, All-push, filter-append, filter_agree, filter_passes, IsUpperBound, PopsGreatest, IsPermutation, nat_cmp, IsPermutation-map, sum_by-IsPermutation, length-filter, ap₂, length-append, map, bytes_eq, or_parts, ◌-◌, append_assoc, append-nil, zero, suc}
 use Rattle.bt_bed.specs.model.Feature.{Span, Feature, intervals_of}
 use Rattle.bt_bed.specs.model.Levels.{Level}
-use Rattle.bt_bed.specs.calls.LevelScan.{Begun, begun_after, ended_after, ended_at, begun_at, goes_on, levels_from}
+use Rattle.bt_bed.specs.calls.LevelScan.{Begun, begun_after, ended_after, level_ended_at, begun_at, goes_on_with, levels_from}
 use Rattle.bt_runs.specs.model.Depth.{covers, depth_at, counted_on, depth_of, reported, levels_of}
-use Rattle.bt_runs.specs.calls.Covering.{cut_at, open_at, begun_across}
+use Rattle.bt_runs.specs.calls.Covering.{cut_at, spans_open_at, begun_across}
 use Rattle.bt_runs.specs.inside.Coverage.{still_open, CountsFrom, IsLeastFirst, StartsBelow, ends_of, KeepsEnds, Known, known_by, levels_by, levels_left}
 use Rattle.std.specs.declared.cmp.Reverse.{Reverse}
 use Rattle.bt_bed.specs.model.Sorted.{has_records}
@@ -183,17 +183,17 @@ depth_cut : (size p : ℕ) (spans : List Span) → p < size → depth_at (map (c
 depth_cut size p [] high = refl
 depth_cut size p (s ∷ ss) high = grind (arith, common_steps, (depth_cut size p ss high))
 
-pub depth_of-open : (zeros : Bool) (size start p : ℕ) (spans : List Span) → start ≤ p → p < size → depth_of zeros (open_at size start spans) p ≡ depth_of zeros spans p
+pub depth_of-open : (zeros : Bool) (size start p : ℕ) (spans : List Span) → start ≤ p → p < size → depth_of zeros (spans_open_at size start spans) p ≡ depth_of zeros spans p
 unfolding depth_of
 depth_of-open zeros size start p spans low high = ap (reported zeros) (depth_open start p (map (cut_at size) (filter (λ s. nat_lt s.start size) spans)) low ∙ depth_cut size p spans high)
 
 -- past the length none is open
-pub none_open : (size start : ℕ) (spans : List Span) → size < start → open_at size start spans ≡ []
+pub none_open : (size start : ℕ) (spans : List Span) → size < start → spans_open_at size start spans ≡ []
 none_open size start [] h = refl
 none_open size start (s ∷ ss) h = grind (arith, (none_open size start ss h))
 
 -- those that are open at a later start are open at this one
-pub open_later : (size start later : ℕ) (spans : List Span) → start ≤ later → open_at size later spans ≡ still_open later (open_at size start spans)
+pub open_later : (size start later : ℕ) (spans : List Span) → start ≤ later → spans_open_at size later spans ≡ still_open later (spans_open_at size start spans)
 open_later size start later spans h = sym (open_after start later (map (cut_at size) (filter (λ s. nat_lt s.start size) spans)) h)
 
 -- the counted records on a chromosome, one list after another
@@ -214,7 +214,7 @@ counted_none strand name (r ∷ rs) none =
 -- what is known of a chromosome after these records, by the last start
 abbrev pub known_at : Bool → ℕ → List Span → ℕ → Known
 known_at zeros size spans start = cond (nat_lt size start) (record { to = size; begun = None; held = [] })
-    (record { to = start; begun = begun_after (depth_of zeros spans) 0 start None; held = open_at size start spans })
+    (record { to = start; begun = begun_after (depth_of zeros spans) 0 start None; held = spans_open_at size start spans })
 
 -- the intervals that are settled
 abbrev pub settled_at : Bool → ℕ → List Span → ℕ → List Level
@@ -226,15 +226,15 @@ with_counted counted spans start stop = spans ++ cond counted (record { start = 
 
 module _ (zeros : Bool) (size : ℕ) (spans : List Span) (start : ℕ) where
   -- the open records have the depths from the start on
-  held_same : (stop : ℕ) → stop ≤ size → AreSame (depth_of zeros (open_at size start spans)) (depth_of zeros spans) start (stop - start)
+  held_same : (stop : ℕ) → stop ≤ size → AreSame (depth_of zeros (spans_open_at size start spans)) (depth_of zeros spans) start (stop - start)
   held_same stop within q low high = depth_of-open zeros size start q spans low (omega arith)
 
   -- the rest of a scan
-  rest_of : (stop : ℕ) → start ≤ stop → stop ≤ size → start ≤ size → (begun_after (depth_of zeros spans) 0 stop None ≡ begun_after (depth_of zeros (open_at size start spans)) start (stop - start) (begun_after (depth_of zeros spans) 0 start None))
-      × (ended_after (depth_of zeros spans) 0 stop None ≡ ended_after (depth_of zeros spans) 0 start None ++ ended_after (depth_of zeros (open_at size start spans)) start (stop - start) (begun_after (depth_of zeros spans) 0 start None))
+  rest_of : (stop : ℕ) → start ≤ stop → stop ≤ size → start ≤ size → (begun_after (depth_of zeros spans) 0 stop None ≡ begun_after (depth_of zeros (spans_open_at size start spans)) start (stop - start) (begun_after (depth_of zeros spans) 0 start None))
+      × (ended_after (depth_of zeros spans) 0 stop None ≡ ended_after (depth_of zeros spans) 0 start None ++ ended_after (depth_of zeros (spans_open_at size start spans)) start (stop - start) (begun_after (depth_of zeros spans) 0 start None))
   rest_of stop up within below =
       let v = depth_of zeros spans in
-      grind (arith, (scan_split v start (stop - start) 0 None), (scan_same (depth_of zeros (open_at size start spans)) v (stop - start) start (begun_after v 0 start None) (held_same stop within)))
+      grind (arith, (scan_split v start (stop - start) 0 None), (scan_same (depth_of zeros (spans_open_at size start spans)) v (stop - start) start (begun_after v 0 start None) (held_same stop within)))
 
   -- past the length nothing is left
   none_left : levels_left zeros size (record { to = size; begun = None; held = [] }) ≡ []
@@ -316,13 +316,13 @@ module _ (value : ℕ → Option ℕ) (p : ℕ) where
   across_from zero q (Some begun) h b = rw (le-ltb begun.start p b) refl
   across_from (suc n) q g h b =
       ap (begun_across p) (levels_more value q n g)
-      ∙ elim (cases_Bool (goes_on g (value q))) [
+      ∙ elim (cases_Bool (goes_on_with g (value q))) [
         | inl t ↦ rw t (across_from n (q + 1) g (omega arith) b)
         | inr f ↦ rw f ((grind arith) ∙ across_from n (q + 1) (begun_at q (value q)) (omega arith) (grind arith))
       ]
 
   -- what has begun below it and reaches it is
-  across_it : (begun : Begun) (q : ℕ) (rest : List Level) → begun.start < p → p ≤ q → begun_across p (ended_at (Some begun) q ++ rest) ≡ Some begun
+  across_it : (begun : Begun) (q : ℕ) (rest : List Level) → begun.start < p → p ≤ q → begun_across p (level_ended_at (Some begun) q ++ rest) ≡ Some begun
   across_it begun q rest low high = rw (lt-ltb begun.start p low, le-leb p q high) refl
 
   across_on : (n q : ℕ) (begun : Begun) → p ≤ q → begun.start < p → begun_across p (levels_from value q n (Some begun)) ≡ Some begun

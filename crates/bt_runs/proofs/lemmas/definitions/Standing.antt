@@ -12,7 +12,7 @@ use Rattle.bt_runs.specs.model.Merged.{is_closed, is_counted, counted}
 use Rattle.bt_runs.proofs.lemmas.merge.Bridging.{AreApartBy}
 use Rattle.bt_runs.specs.declared.merge.merge_strand.MergeStrand.{MergeStrand}
 use Rattle.bt_runs.proofs.lemmas.Lists.{filter_map_all}
-use Rattle.bt_runs.specs.calls.Engine.{Settles, SettledStays, SettledBegins}
+use Rattle.bt_runs.specs.calls.Engine.{SettlesMore, SettledStays, SettledBegins}
 
 -- ranks compared
 pub cmp_less : (a b : ℕ) → a < b → nat_cmp a b ≡ Less
@@ -295,7 +295,7 @@ module _ (strand : MergeStrand) where
 -- What follows of every list of which more and more is settled as records come.
 
 -- what is settled begins what is settled later
-pub stays : {T : Type 0} (settled whole : List Feature → List T) (Taken : List Feature → Type 0) → Settles settled whole Taken → SettledStays settled Taken
+pub stays : {T : Type 0} (settled whole : List Feature → List T) (Taken : List Feature → Type 0) → SettlesMore settled whole Taken → SettledStays settled Taken
 stays settled whole Taken h past [] t = ([], ap settled (append-nil past) ∙ sym (append-nil (settled past)))
 stays {T} settled whole Taken h past (r ∷ rs) t =
     let grown : (past ++ r ∷ []) ++ rs ≡ past ++ r ∷ rs = append_assoc past (r ∷ []) rs in
@@ -305,5 +305,5 @@ stays {T} settled whole Taken h past (r ∷ rs) t =
     (one.0 ++ more.0, ap settled (sym grown) ∙ more.1 ∙ ap (λ l. l ++ more.0) one.1 ∙ append_assoc (settled past) one.0 more.0)
 
 -- and the whole of every longer list
-pub begins : {T : Type 0} (settled whole : List Feature → List T) (Taken : List Feature → Type 0) → Settles settled whole Taken → SettledBegins settled whole Taken
+pub begins : {T : Type 0} (settled whole : List Feature → List T) (Taken : List Feature → Type 0) → SettlesMore settled whole Taken → SettledBegins settled whole Taken
 begins settled whole Taken h = grind (arith, stays, append_assoc)

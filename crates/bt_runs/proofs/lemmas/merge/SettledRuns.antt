@@ -5,8 +5,8 @@ use Rattle.bt_bed.specs.model.Sorted.{has_records}
 use Rattle.bt_bed.specs.calls.Orders.{ArePlaced, AreContiguous, AreDistinct}
 use Rattle.bt_bed.proofs.lemmas.parse.NameLemmas.{name_ne}
 use Rattle.bt_runs.specs.model.Merged.{is_counted, counted, runs_of, runs_on, is_closed, merged_runs, chromosomes, merged}
-use Rattle.bt_runs.specs.calls.MergedRuns.{settled_runs, kept_runs, AreTaken}
-use Rattle.bt_runs.specs.inside.merge.UnstrandedStep.{kept_by, left_by, settled_by, with_record}
+use Rattle.bt_runs.specs.calls.MergedRuns.{settled_runs, kept_runs, AreMergeable}
+use Rattle.bt_runs.specs.inside.merge.UnstrandedStep.{kept_by, runs_left_by, settled_by, runs_with}
 use Rattle.bt_runs.specs.declared.merge.merge_strand.MergeStrand.{MergeStrand}
 use Rattle.bt_runs.proofs.lemmas.order.ByChromosome.{Divides, Form, NoRecords, Owes, Begun, InOrder, Moves, Ordered, Standing, Written, bares, begun, full_front, full_last, goes_first, goes_next, goes_on, goes_to, order_front, settling, whole_left}
 use Rattle.bt_runs.proofs.lemmas.order.FileOrder.{runs_on-push_elsewhere, spans_on-none, spans_on-push_here, runs_of-nil, runs_on-none, in_file_order, distinct_chromosomes, placed_own}
@@ -14,7 +14,7 @@ use Rattle.bt_runs.proofs.lemmas.definitions.Standing.{counted_absent, counted_n
 use Rattle.bt_runs.proofs.lemmas.merge.Bridging.{OneOpen, join_open, longer, next_open, open_runs}
 use Rattle.bt_bed.specs.model.Order.{rank_order}
 use Rattle.bt_bed.proofs.lemmas.order.OrderLemmas.{placed_prefix, contiguous_prefix}
-use Rattle.bt_runs.specs.calls.Engine.{SettledBegins, SettledStays, Settles}
+use Rattle.bt_runs.specs.calls.Engine.{SettledBegins, SettledStays, SettlesMore}
 
 -- no record was merged on the chromosome
 pub record Unopened (spans : List Span) (done kept : List Interval) : Type 0 where
@@ -55,7 +55,7 @@ later gap spans start more up last = record { before = last.before; run = last.r
 
 module _ (gap : ℕ) (name : List ℕ) (spans : List Span) where
   -- a later start settles the run that it closes
-  passes : (start : ℕ) (done kept : List Interval) (x : Interval) → name ≡ x.chrom → start ≤ x.start → Runs gap name spans start done kept → Runs gap name spans x.start (done ++ settled_by gap kept x) (left_by gap kept x)
+  passes : (start : ℕ) (done kept : List Interval) (x : Interval) → name ≡ x.chrom → start ≤ x.start → Runs gap name spans start done kept → Runs gap name spans x.start (done ++ settled_by gap kept x) (runs_left_by gap kept x)
   passes start done kept x is up (inl u) = inl (record { none = u.none; done_is = rw (u.done_is, u.kept_is) refl; kept_is = rw u.kept_is refl })
   passes start done kept x is up (inr (inr d)) = inr (inr (record {
     last = later gap spans start x.start up d.last;
@@ -74,7 +74,7 @@ module _ (gap : ℕ) (name : List ℕ) (spans : List Span) where
               done_is =
                   ap₂ (λ (xs ys : List Interval). xs ++ ys) k.done_is (ap (λ runs. settled_by gap runs x) k.kept_is ∙ cond-true (is_closed gap x run) (run ∷ []) [] past)
                   ∙ sym (map-append (placed_on name) k.last.before (k.last.run ∷ []));
-              kept_is = ap (λ runs. left_by gap runs x) k.kept_is ∙ cond-false (not (is_closed gap x run)) (run ∷ []) [] (not_from_true (is_closed gap x run) past);
+              kept_is = ap (λ runs. runs_left_by gap runs x) k.kept_is ∙ cond-false (not (is_closed gap x run)) (run ∷ []) [] (not_from_true (is_closed gap x run) past);
             }))
         | inr near ↦
             let stays = not_passed gap x run is near in
@@ -84,12 +84,12 @@ module _ (gap : ℕ) (name : List ℕ) (spans : List Span) where
               done_is =
                   ap (λ runs. done ++ runs) (ap (λ runs. settled_by gap runs x) k.kept_is ∙ cond-false (is_closed gap x run) (run ∷ []) [] stays)
                   ∙ append-nil done ∙ k.done_is;
-              kept_is = ap (λ runs. left_by gap runs x) k.kept_is ∙ cond-true (not (is_closed gap x run)) (run ∷ []) [] (not_from_false (is_closed gap x run) stays);
+              kept_is = ap (λ runs. runs_left_by gap runs x) k.kept_is ∙ cond-true (not (is_closed gap x run)) (run ∷ []) [] (not_from_false (is_closed gap x run) stays);
             }))
       ]
 
   -- a record at the last start is joined to the run that is kept, or opens one
-  adds : (done kept : List Interval) (x : Interval) → name ≡ x.chrom → x.start < x.stop → Runs gap name spans x.start done kept → Runs gap name (spans ++ span_of x ∷ []) x.start done (with_record kept x)
+  adds : (done kept : List Interval) (x : Interval) → name ≡ x.chrom → x.start < x.stop → Runs gap name spans x.start done kept → Runs gap name (spans ++ span_of x ∷ []) x.start done (runs_with kept x)
   adds done kept x is full (inl u) = inr (inl (record {
     last = record { before = []; run = span_of x; at = x.start; up = omega arith; one = rw u.none (grind arith) };
     near = omega arith;
@@ -110,7 +110,7 @@ module _ (gap : ℕ) (name : List ℕ) (spans : List Span) where
   }))
 
   -- a record elsewhere closes all
-  pub gone : (start : ℕ) (done kept : List Interval) (x : Interval) → bytes_eq name x.chrom ≡ false → Runs gap name spans start done kept → (settled_by gap kept x ≡ kept) × (left_by gap kept x ≡ [])
+  pub gone : (start : ℕ) (done kept : List Interval) (x : Interval) → bytes_eq name x.chrom ≡ false → Runs gap name spans start done kept → (settled_by gap kept x ≡ kept) × (runs_left_by gap kept x ≡ [])
   gone start done kept x other p1 = grind arith
 
   -- one run at most is kept
@@ -142,13 +142,13 @@ module _ (gap : ℕ) (strand : MergeStrand) where
       → At gap strand name (past ++ r ∷ []) r.start (done ++ settled_by gap kept (interval_of r)) (kept_by gap strand kept r)
   next_on name past start done kept r at is up full =
       let x = interval_of r in
-      let left = left_by gap kept x in
+      let left = runs_left_by gap kept x in
       let spans = spans_on name (counted strand past) in
       let passed = passes gap name spans start done kept x is up at in
       elim (cases_Bool (is_counted strand r.strand)) [
         | inl t ↦
             let more = ap (spans_on name) (counted_next strand past r t) ∙ spans_on-push_here name (counted strand past) x (sym is) in
-            rw (more, cond-true (is_counted strand r.strand) (with_record left x) left t) (adds gap name spans (done ++ settled_by gap kept x) left x is full passed)
+            rw (more, cond-true (is_counted strand r.strand) (runs_with left x) left t) (adds gap name spans (done ++ settled_by gap kept x) left x is full passed)
         | inr n ↦ grind (arith, counted-append, append-nil)
       ]
 
@@ -200,7 +200,7 @@ same_names [] = refl
 same_names (n ∷ ns) = ap (λ ms. n ∷ ms) (same_names ns)
 
 -- the first records of those that may be taken
-pub taken_front : (past more : List Feature) → AreTaken (past ++ more) → AreTaken past
+pub taken_front : (past more : List Feature) → AreMergeable (past ++ more) → AreMergeable past
 taken_front past more t = grind (arith, (contiguous_prefix (intervals_of past) (intervals_of more) (subst AreContiguous (map-append interval_of past more) t.contiguous)), (full_front past more t.full))
 
 module _ (gap : ℕ) (strand : MergeStrand) where
@@ -209,15 +209,15 @@ module _ (gap : ℕ) (strand : MergeStrand) where
   unfolding settled_runs merged
   written names past distinct placed = grind (arith, (in_file_order names gap strand past distinct placed))
 
-  ordered : (all : List Feature) → AreTaken all → Ordered (form gap strand) (At gap strand) all
+  ordered : (all : List Feature) → AreMergeable all → Ordered (form gap strand) (At gap strand) all
   ordered all t =
       let names = chromosomes (intervals_of all) in
       let distinct = distinct_chromosomes (intervals_of all) in
       grind (arith, (placed_own (intervals_of all) t.contiguous), (same_names names), (owes gap strand (map (λ name. name) names)), written, placed_prefix, map-append)
 
   -- what is settled begins what is settled later
-  settled_more : Settles (settled_runs gap strand) (merged_runs gap strand) AreTaken
-  settled_more = settling (form gap strand) (At gap strand) AreTaken taken_front ordered
+  settled_more : SettlesMore (settled_runs gap strand) (merged_runs gap strand) AreMergeable
+  settled_more = settling (form gap strand) (At gap strand) AreMergeable taken_front ordered
 
   none_bare : (names : List (List ℕ)) → bares (form gap strand) names ≡ []
   none_bare [] = refl
@@ -281,10 +281,10 @@ module _ (gap : ℕ) (strand : MergeStrand) where
               let passed = gone gap b.key _ s.last.start s.done b.state x g.other s.at in
               next_by distinct held was w (goes_to (form gap strand) (At gap strand) names debts distinct r s g full)
               (append-nil (b.state ++ bares (form gap strand) g.middle) ∙ ap (λ runs. b.state ++ runs) (none_bare gap strand g.middle) ∙ append-nil b.state ∙ sym passed.0)
-              (ap (λ left. cond (is_counted strand r.strand) (with_record left x) left) (sym passed.1))
+              (ap (λ left. cond (is_counted strand r.strand) (runs_with left x) left) (sym passed.1))
         ]
 
-  pub next_taken : (past : List Feature) (r : Feature) → AreTaken (past ++ r ∷ []) → Next gap strand past r
+  pub next_taken : (past : List Feature) (r : Feature) → AreMergeable (past ++ r ∷ []) → Next gap strand past r
   next_taken past r t =
       let all = past ++ r ∷ [] in
       let o = ordered gap strand all t in
@@ -304,11 +304,11 @@ module _ (gap : ℕ) (strand : MergeStrand) where
         few = rw is (few gap b.key _ s.last.start s.done b.state s.at);
       }
 
-  pub whole_taken : (past : List Feature) → AreTaken past → Whole gap strand past
+  pub whole_taken : (past : List Feature) → AreMergeable past → Whole gap strand past
   whole_taken past t = grind (arith, whole_from, (append-nil past), begun, (owes gap strand (map (λ name. name) (ordered gap strand past t).keys)))
 
-pub runs_stay : (gap : ℕ) (strand : MergeStrand) → SettledStays (settled_runs gap strand) AreTaken
-runs_stay gap strand = stays (settled_runs gap strand) (merged_runs gap strand) AreTaken (settled_more gap strand)
+pub runs_stay : (gap : ℕ) (strand : MergeStrand) → SettledStays (settled_runs gap strand) AreMergeable
+runs_stay gap strand = stays (settled_runs gap strand) (merged_runs gap strand) AreMergeable (settled_more gap strand)
 
-pub runs_begin : (gap : ℕ) (strand : MergeStrand) → SettledBegins (settled_runs gap strand) (merged_runs gap strand) AreTaken
-runs_begin gap strand = begins (settled_runs gap strand) (merged_runs gap strand) AreTaken (settled_more gap strand)
+pub runs_begin : (gap : ℕ) (strand : MergeStrand) → SettledBegins (settled_runs gap strand) (merged_runs gap strand) AreMergeable
+runs_begin gap strand = begins (settled_runs gap strand) (merged_runs gap strand) AreMergeable (settled_more gap strand)

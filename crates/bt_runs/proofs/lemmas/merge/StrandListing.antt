@@ -6,8 +6,8 @@ use Rattle.bt_bed.specs.calls.Orders.{AreContiguous}
 use Rattle.bt_bed.specs.declared.record.strand.Strand.{Strand}
 use Rattle.bt_bed.proofs.lemmas.order.OrderLemmas.{last_of-push}
 use Rattle.bt_runs.specs.model.Merged.{merged, is_closed, merged_runs, StrandRun, runs_of_strand, begun_by, is_in, listed_behind, strand_runs}
-use Rattle.bt_runs.specs.calls.MergedRuns.{AreTaken, settled_runs}
-use Rattle.bt_runs.specs.inside.merge.UnstrandedStep.{joined_run, left_by, settled_by, with_record}
+use Rattle.bt_runs.specs.calls.MergedRuns.{AreMergeable, settled_runs}
+use Rattle.bt_runs.specs.inside.merge.UnstrandedStep.{joined_run, runs_left_by, settled_by, runs_with}
 use Rattle.bt_runs.specs.inside.merge.StrandStep.{run_from, run_with}
 use Rattle.bt_runs.specs.declared.merge.merge_strand.MergeStrand.TheVariants.{One}
 use Rattle.bt_runs.proofs.lemmas.order.ByChromosome.{intervals_next, full_front, full_last}
@@ -54,13 +54,13 @@ module _ (gap : ℕ) (x : Interval) where
   none_open runs passed = grind (arith, map_leaves, passed_leaves, none_from, passed_closed)
 
   pub grown_runs : (done kept : List Interval) → AllByRecursion IsPassed done → length kept ≤ 1
-      → (done ++ settled_by gap kept x) ++ with_record (left_by gap kept x) x ≡ map joined (done ++ kept) ++ cond (list_any is_open (done ++ kept)) [] (x ∷ [])
+      → (done ++ settled_by gap kept x) ++ runs_with (runs_left_by gap kept x) x ≡ map joined (done ++ kept) ++ cond (list_any is_open (done ++ kept)) [] (x ∷ [])
   grown_runs done [] passed few = none_open (done ++ []) (rw (append-nil done) passed)
   grown_runs done (k ∷ []) passed few = elim (cases_Bool (is_closed gap x k)) [
     | inl t ↦ grind (arith, none_open, all_both)
     | inr f ↦
         let opened = not_from_false (is_closed gap x k) f in
-        ap₂ (λ (a b : List Interval). (done ++ a) ++ with_record b x) (cond-false (is_closed gap x k) (k ∷ []) [] f) (cond-true (is_open k) (k ∷ []) [] opened)
+        ap₂ (λ (a b : List Interval). (done ++ a) ++ runs_with b x) (cond-false (is_closed gap x k) (k ∷ []) [] f) (cond-true (is_open k) (k ∷ []) [] opened)
         ∙ ap (λ l. l ++ joined_run k x ∷ []) (append-nil done)
         ∙ sym (ap₂ (λ (a b : List Interval). a ++ b)
         (map-append joined done (k ∷ []) ∙ ap₂ (λ (a b : List Interval). a ++ b) (map_leaves joined done (passed_leaves done passed)) (ap (λ y. y ∷ []) (cond-true (is_open k) (joined_run k x) k opened)))
@@ -103,7 +103,7 @@ pub record Parted (gap : ℕ) (r : Feature) (runs : List StrandRun) : Type 0 whe
   pub passed : AllByRecursion (λ item. reaches gap r item ≡ false) done
   pub few : length kept ≤ 1
 
-module _ (gap : ℕ) (past : List Feature) (r : Feature) (taken : AreTaken (past ++ r ∷ [])) where
+module _ (gap : ℕ) (past : List Feature) (r : Feature) (taken : AreMergeable (past ++ r ∷ [])) where
   -- what is settled of a strand's runs is closed by the record
   settled_passed : AllByRecursion (IsPassed gap (interval_of r)) (settled_runs gap (One r.strand) past)
   unfolding settled_runs
@@ -185,7 +185,7 @@ module _ (gap : ℕ) (r : Feature) where
       let h = both.0.to in let g = l.from in absurd (omega arith))
       items (some_each (λ item. Lies item p) (λ item. reaches gap r item ≡ false) (λ item. Lies item p × (reaches gap r item ≡ false)) (λ item a b. (a, b)) items some none))
 
-module _ (gap : ℕ) (past : List Feature) (r : Feature) (taken : AreTaken (past ++ r ∷ [])) (listed : Listed gap past) where
+module _ (gap : ℕ) (past : List Feature) (r : Feature) (taken : AreMergeable (past ++ r ∷ [])) (listed : Listed gap past) where
   -- whether the record is joined to a run
   abbrev pub some_reached : Bool
   some_reached = list_any (reaches gap r) (strand_runs gap past)
@@ -347,12 +347,12 @@ listed_none : (gap : ℕ) → Listed gap []
 unfolding strand_runs merged
 listed_none gap = record { lies = tt; has = tt; apart = tt; split = λ strand. refl }
 
-listed_more : (gap : ℕ) (past more : List Feature) → AreTaken (past ++ more) → Listed gap past → Listed gap (past ++ more)
+listed_more : (gap : ℕ) (past more : List Feature) → AreMergeable (past ++ more) → Listed gap past → Listed gap (past ++ more)
 listed_more gap past [] t l = rw (append-nil past) l
 listed_more gap past (r ∷ rs) t l =
     let grown : (past ++ r ∷ []) ++ rs ≡ past ++ r ∷ rs = append_assoc past (r ∷ []) rs in
-    let t_grown = subst AreTaken (sym grown) t in
+    let t_grown = subst AreMergeable (sym grown) t in
     rw (← grown) (listed_more gap (past ++ r ∷ []) rs t_grown (listed_next gap past r (taken_front (past ++ r ∷ []) rs t_grown) l))
 
-pub are_listed : (gap : ℕ) (past : List Feature) → AreTaken past → Listed gap past
+pub are_listed : (gap : ℕ) (past : List Feature) → AreMergeable past → Listed gap past
 are_listed gap past t = listed_more gap [] past t (listed_none gap)

@@ -6,8 +6,8 @@ use Rattle.bt_bed.specs.calls.Orders.{AreContiguous}
 use Rattle.bt_bed.proofs.lemmas.parse.NameLemmas.{cases_name, name_eq}
 use Rattle.bt_bed.proofs.lemmas.order.OrderLemmas.{last_of-push}
 use Rattle.bt_runs.specs.model.Merged.{is_closed, StrandRun, closed_prefix, settled_strand_runs, strand_runs, places_of}
-use Rattle.bt_runs.specs.calls.MergedRuns.{AreTaken, kept_strand_runs}
-use Rattle.bt_runs.specs.calls.Engine.{SettledBegins, SettledStays, Settles}
+use Rattle.bt_runs.specs.calls.MergedRuns.{AreMergeable, kept_strand_runs}
+use Rattle.bt_runs.specs.calls.Engine.{SettledBegins, SettledStays, SettlesMore}
 use Rattle.bt_runs.specs.inside.merge.StrandStep.{added_at, left_unsettled, settled_prefix, last_place, place_among, run_from, run_with, with_added, count_up_to, counts_up_to_last, place_of, slot_of, lengthened, with_joined, left_runs, passed_runs, placed_run, placed_runs}
 use Rattle.bt_runs.proofs.lemmas.order.ByChromosome.{intervals_next}
 use Rattle.bt_runs.proofs.lemmas.definitions.Standing.{not_passed, passed_elsewhere, passed_far, begins, stays}
@@ -117,7 +117,7 @@ module _ (gap : ℕ) (r : Feature) where
   added_is (x ∷ xs) o = grind (arith, (added_is xs o.1), added_later, place_some, added_here)
 
 -- the last record, seen from those before it
-last_near : (past : List Feature) (r : Feature) (last : Interval) → AreTaken (past ++ r ∷ []) → last_of (intervals_of past) ≡ Some last → AllByRecursion (λ p. p.chrom ≡ r.chrom → (last.chrom ≡ r.chrom) × (last.start ≤ r.start)) past
+last_near : (past : List Feature) (r : Feature) (last : Interval) → AreMergeable (past ++ r ∷ []) → last_of (intervals_of past) ≡ Some last → AllByRecursion (λ p. p.chrom ≡ r.chrom → (last.chrom ≡ r.chrom) × (last.start ≤ r.start)) past
 last_near [] r last taken is = tt
 last_near (q ∷ qs) r last taken is =
     let e : last_from (interval_of q) (intervals_of qs) ≡ last = cc in
@@ -159,7 +159,7 @@ module _ (gap : ℕ) where
         ]
   ]
 
-  module _ (past : List Feature) (r : Feature) (taken : AreTaken (past ++ r ∷ [])) where
+  module _ (past : List Feature) (r : Feature) (taken : AreMergeable (past ++ r ∷ [])) where
     listed : Listed gap past
     listed = are_listed gap past (taken_front past (r ∷ []) taken)
 
@@ -203,7 +203,7 @@ module _ (gap : ℕ) where
         let added = added_is gap r rest (only_behind gap r front rest (rw (← whole) only)) in
         grind (arith, stops_added, listing_next, listed, grown_behind, intervals_next, last_of-push, front_is, drop_at)
 
-  settles_strands : Settles (settled_strand_runs gap) (strand_runs gap) AreTaken
+  settles_strands : SettlesMore (settled_strand_runs gap) (strand_runs gap) AreMergeable
   settles_strands = record {
     prefix = taken_front;
     next = λ past r t. (settled_prefix gap (kept_strand_runs gap past) r, (strand_next past r t).settled);
@@ -211,11 +211,11 @@ module _ (gap : ℕ) where
   }
 
 -- so the laws
-pub stay : (gap : ℕ) → SettledStays (settled_strand_runs gap) AreTaken
-stay gap = stays (settled_strand_runs gap) (strand_runs gap) AreTaken (settles_strands gap)
+pub stay : (gap : ℕ) → SettledStays (settled_strand_runs gap) AreMergeable
+stay gap = stays (settled_strand_runs gap) (strand_runs gap) AreMergeable (settles_strands gap)
 
-pub begin : (gap : ℕ) → SettledBegins (settled_strand_runs gap) (strand_runs gap) AreTaken
-begin gap = begins (settled_strand_runs gap) (strand_runs gap) AreTaken (settles_strands gap)
+pub begin : (gap : ℕ) → SettledBegins (settled_strand_runs gap) (strand_runs gap) AreMergeable
+begin gap = begins (settled_strand_runs gap) (strand_runs gap) AreMergeable (settles_strands gap)
 
 -- The place of each strand's last run, as runs are added, joined and taken off, and what is written of those that a record closes.
 

@@ -11,7 +11,7 @@ use Rattle.bt_runs.specs.calls.Engine.{AfterEach}
 use Rattle.bt_runs.specs.model.Depth.{is_counted_by}
 use Rattle.bt_runs.specs.model.Merged.{is_counted}
 use Rattle.bt_runs.specs.calls.MergedRuns.{kept_runs, settled_runs}
-use Rattle.bt_runs.specs.inside.merge.UnstrandedStep.{left_by, merged_of, settled_by, kept_at, lines_by, unstranded_rule}
+use Rattle.bt_runs.specs.inside.merge.UnstrandedStep.{runs_left_by, merged_of, settled_by, kept_at, lines_by, unstranded_rule}
 use Rattle.bt_runs.specs.inside.Walk.{EnterAnswers, FitsPast, PutsRestAtEnd}
 use Rattle.bt_runs.specs.calls.Unstranded.{Unstranded, settled_lines, unstranded}
 use Rattle.bt_runs.specs.declared.merge.unstranded_merge.OpenRun.{OpenRun}
@@ -48,7 +48,7 @@ module _ (old : Unstranded) where
 
 -- another chromosome is entered
 module _ (old : Unstranded) (run : OpenRun) (is : kept_at old.chrom run ≡ old.kept) (out : Output) {name : List ℕ} (apart : bytes_eq old.chrom name ≡ false) where
-  passes : (r : Feature) → r.chrom ≡ name → (lines_by old r ≡ interval_lines old.kept) × (left_by old.gap old.kept (interval_of r) ≡ [])
+  passes : (r : Feature) → r.chrom ≡ name → (lines_by old r ≡ interval_lines old.kept) × (runs_left_by old.gap old.kept (interval_of r) ≡ [])
   passes r at = grind arith
 
   -- once the kept run is written

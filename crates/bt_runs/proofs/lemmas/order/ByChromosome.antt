@@ -7,7 +7,7 @@
 -- 3. `divides`: the items are those that are done and those that are left; by the last start all of the first are over, and none of the others.
 -- The other fields are a line each: a record elsewhere changes no item. On the chromosomes before the last record's all items are over, and on those after it none. `Written` and `Ordered` say that the definitions of the whole and of what is settled go by these parts, in an order of chromosomes.
 --
--- It is given what one more record settles and what is kept then, on the same chromosome or a later one (`goes_first`, `goes_on`, `goes_to`). That is what `feed` has to do. It is also given what is left for `finish` (`whole_left`), and `Settles` (`settling`), from which settled items stay and begin the whole (`Standing`).
+-- It is given what one more record settles and what is kept then, on the same chromosome or a later one (`goes_first`, `goes_on`, `goes_to`). That is what `feed` has to do. It is also given what is left for `finish` (`whole_left`), and `SettlesMore` (`settling`), from which settled items stay and begin the whole (`Standing`).
 -- The engines' forms are in `SettledRuns` (merge), `GapRuleLemmas` (complement) and `DepthSteps` (coverage); the last two take `Walks` from here.
 use Rattle.bt_lines.proofs.Std.{common_steps, ◌≡◌, ◌⊎◌, ℕ, ◌<◌, ◌≤◌, inl, inr, List, [], ◌∷◌, ◌++◌, append_assoc, append-nil, refl, sym, ap, ap₂, ◌∙◌, subst, arith, length, length-append, map, flat_map, true, false, bytes_eq, Some, ⊤, or_parts, flat_map-append, map-append, take_at, Contains-push, zero, suc, ◌+◌, ◌-◌, length-drop, drop, option_map, slice_range, min, Option, Result, Ok, Err, slice_get, cond-true, cond-false, take_at_read, get_or-drop, drop-drop, get_or-append_seam, take-add}
 use Rattle.std.specs.declared.cmp.Ordering.TheVariants.{Less, Greater}
@@ -17,11 +17,11 @@ use Rattle.bt_bed.specs.model.Sorted.{has_records}
 use Rattle.bt_bed.specs.model.Order.{is_among, rank_order, rank_of}
 use Rattle.bt_bed.proofs.lemmas.parse.NameLemmas.{name_ne-sym, name_eq}
 use Rattle.bt_bed.proofs.lemmas.order.OrderLemmas.{placed_prefix}
-use Rattle.bt_runs.specs.calls.Engine.{Settles}
+use Rattle.bt_runs.specs.calls.Engine.{SettlesMore}
 use Rattle.bt_runs.proofs.lemmas.definitions.Standing.{AllCompare, all_after, all_before, Arrives, GoesTo, NoneOn, Stand, begins_at, elsewhere_of, goes, last_rank, none_at_first, stand_at, Found, found}
 use Rattle.bt_bed.specs.model.Genome.{Entry, genome_names}
 use Rattle.bt_runs.specs.calls.Complementing.{length_in}
-use Rattle.bt_runs.specs.inside.Walk.{IsPlaced, entry_at, Place, begun as names_begun, left_before, left_of}
+use Rattle.bt_runs.specs.inside.Walk.{IsRanked, entry_at, Place, begun as names_begun, left_before, left_of}
 use Rattle.bt_lines.specs.calls.Output.{Output, Adds, Grown}
 use Rattle.bt_lines.specs.declared.fault.Fault.{Fault}
 use Rattle.bt_lines.specs.calls.Names.{fault_value}
@@ -277,7 +277,7 @@ module _ {K T S : Type 0} (f : Form K T S) (At : K → List Feature → ℕ → 
     pub written : (past more : List Feature) → past ++ more ≡ all → Written keys past
 
   -- if all that it may take is ordered, what is settled begins what is settled later, and the whole
-  pub settling : (Taken : List Feature → Type 0) → ((past more : List Feature) → Taken (past ++ more) → Taken past) → ((all : List Feature) → Taken all → Ordered all) → Settles f.settled f.whole Taken
+  pub settling : (Taken : List Feature → Type 0) → ((past more : List Feature) → Taken (past ++ more) → Taken past) → ((all : List Feature) → Taken all → Ordered all) → SettlesMore f.settled f.whole Taken
   settling Taken front ordered = record {
     prefix = front;
     next = λ past r t.
@@ -302,7 +302,7 @@ pub found_entry : (entries : List Entry) (name : List ℕ) (rank : ℕ) → (f :
 found_entry entries name rank f = ap (λ l. entry_at l rank) f.split ∙ entry_there f.before f.key f.after rank f.at
 
 -- the chromosome that a look-up finds is the one of its name
-pub found_at : (entries : List Entry) (name : List ℕ) (rank : ℕ) → rank_of (genome_names entries) name ≡ Some rank → IsPlaced entries rank
+pub found_at : (entries : List Entry) (name : List ℕ) (rank : ℕ) → rank_of (genome_names entries) name ≡ Some rank → IsRanked entries rank
 found_at entries name rank is =
     grind (arith, length-append, (found_entry entries name rank (found name_at entries name rank is)))
 

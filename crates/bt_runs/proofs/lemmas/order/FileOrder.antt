@@ -6,7 +6,7 @@ use Rattle.bt_bed.specs.model.Order.{is_among, Order, rank_of, compare_ranks, ra
 use Rattle.bt_bed.specs.calls.Orders.{IsTotal, AreDistinct, IsPlacedBefore, ArePlaced, AreContiguous}
 use Rattle.bt_bed.specs.model.Sorted.{has_records}
 use Rattle.bt_bed.proofs.lemmas.parse.NameLemmas.{name_eq, name_ne, other_name, cases_name, name_ne-sym}
-use Rattle.bt_runs.specs.model.Merged.{runs_of, runs_on, without, chromosomes, is_counted, counted, merged, merged_runs, in_order, ordered_runs}
+use Rattle.bt_runs.specs.model.Merged.{runs_of, runs_on, without, chromosomes, is_counted, counted, merged, merged_runs, ordered_names, ordered_runs}
 use Rattle.std.specs.declared.cmp.Ordering.TheVariants.{Less}
 use Rattle.bt_bed.specs.inside.RankTotal.{ranks_total}
 use Rattle.bt_runs.specs.declared.merge.merge_strand.MergeStrand.{MergeStrand}
@@ -187,7 +187,7 @@ module _ (order : Order) (total : IsTotal order) where
   gone r s ss placed less = grind (arith, (placed_contiguous order (r ∷ s ∷ ss) total placed))
 
   names_placed : (records : List Interval) → ArePlaced order records
-      → in_order order (chromosomes records) ≡ chromosomes records
+      → ordered_names order (chromosomes records) ≡ chromosomes records
   names_placed [] placed = refl
   names_placed (r ∷ []) placed = refl
   names_placed (r ∷ s ∷ ss) placed = grind (arith, (names_placed (s ∷ ss) placed.2), without_absent, (among_chromosomes r.chrom (s ∷ ss)), gone, same_chromosome)

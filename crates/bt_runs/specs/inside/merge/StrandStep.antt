@@ -133,24 +133,24 @@ lines_by merge r = strand_lines (settled_prefix merge.gap merge.kept r)
 
 -- what needs memory: the record is joined to none of the runs that stay, so that one has to be opened, or the name of
 -- another chromosome
-abbrev pub wants_memory : Stranding → Feature → Type 0
-wants_memory old r =
+abbrev pub strand_wants_memory : Stranding → Feature → Type 0
+strand_wants_memory old r =
     (with_added old.gap (left_unsettled old.gap old.kept r) r
     ≡ left_unsettled old.gap old.kept r ++ run_from r ∷ []) ⊎ (old.chrom ≡ r.chrom → ⊥)
 
 -- the record was taken
-pub record Takes (old : Stranding) (r : Feature) (new : Stranding) : Type 0 where
+pub record TakesByStrand (old : Stranding) (r : Feature) (new : Stranding) : Type 0 where
   pub gap : new.gap ≡ old.gap
   pub chrom : new.chrom ≡ r.chrom
   pub kept : new.kept ≡ with_added old.gap (left_unsettled old.gap old.kept r) r
 
 -- what it takes, writes and keeps, until it has failed
 abbrev pub stranding : EngineDef Stranding
-stranding = stranding_with wants_memory
+stranding = stranding_with strand_wants_memory
 
 -- the rule
 abbrev pub strand_rule : RuleDef Stranding
-strand_rule = record { engine = stranding; lines = lines_by; has = Takes; is_on = λ merge name. merge.chrom ≡ name }
+strand_rule = record { engine = stranding; lines = lines_by; has = TakesByStrand; is_on = λ merge name. merge.chrom ≡ name }
 
 -- a record whose start less the gap is `reach`, as a run, among runs on its chromosome
 module _ (reach : ℕ) (runs : List PendingRun) (run : PendingRun) where

@@ -20,23 +20,23 @@ abbrev pub joined_run : Interval → Interval → Interval
 joined_run run r = record { chrom = run.chrom; start = run.start; stop = max run.stop r.stop }
 
 -- the runs with the record: joined to the first of them, or as the only one
-abbrev pub with_record : List Interval → Interval → List Interval
-with_record [] r = r ∷ []
-with_record (run ∷ runs) r = joined_run run r ∷ runs
+abbrev pub runs_with : List Interval → Interval → List Interval
+runs_with [] r = r ∷ []
+runs_with (run ∷ runs) r = joined_run run r ∷ runs
 
 -- the runs that the record closes
 abbrev pub settled_by : ℕ → List Interval → Interval → List Interval
 settled_by gap runs r = passed_by gap runs (Some r)
 
 -- and the others
-abbrev pub left_by : ℕ → List Interval → Interval → List Interval
-left_by gap runs r = filter (λ run. not (is_closed gap r run)) runs
+abbrev pub runs_left_by : ℕ → List Interval → Interval → List Interval
+runs_left_by gap runs r = filter (λ run. not (is_closed gap r run)) runs
 
 -- the runs that are kept after the record, which is added if it counts
 abbrev pub kept_by : ℕ → MergeStrand → List Interval → Feature → List Interval
 kept_by gap strand runs r =
-    let left = left_by gap runs (interval_of r) in
-    cond (is_counted strand r.strand) (with_record left (interval_of r)) left
+    let left = runs_left_by gap runs (interval_of r) in
+    cond (is_counted strand r.strand) (runs_with left (interval_of r)) left
 
 -- the run of these numbers, or none
 abbrev pub kept_at : List ℕ → OpenRun → List Interval
@@ -48,7 +48,7 @@ abbrev pub lines_by : Unstranded → Feature → List ℕ
 lines_by merge r = interval_lines (settled_by merge.gap merge.kept (interval_of r))
 
 -- the merge took the record
-pub record Takes (old : Unstranded) (r : Feature) (new : Unstranded) : Type 0 where
+pub record TakesUnstranded (old : Unstranded) (r : Feature) (new : Unstranded) : Type 0 where
   pub gap : new.gap ≡ old.gap
   pub strand : new.strand ≡ old.strand
   pub chrom : new.chrom ≡ r.chrom
@@ -56,4 +56,4 @@ pub record Takes (old : Unstranded) (r : Feature) (new : Unstranded) : Type 0 wh
 
 -- the rule
 abbrev pub unstranded_rule : RuleDef Unstranded
-unstranded_rule = record { engine = unstranded; lines = lines_by; has = Takes; is_on = λ merge name. merge.chrom ≡ name }
+unstranded_rule = record { engine = unstranded; lines = lines_by; has = TakesUnstranded; is_on = λ merge name. merge.chrom ≡ name }

@@ -2,7 +2,7 @@
 use Rattle.bt_lines.proofs.Std.{◌≡◌, ℕ, Bool, true, false, cond, List, [], ◌∷◌, ◌++◌, Option, Some, None, refl, sym, ap, ◌∙◌, bytes_eq, bytes_decides, ◌⊎◌, ◌&&◌, not, inl, inr, arith}
 use Rattle.bt_bed.specs.model.Feature.{Feature}
 use Rattle.bt_seq.specs.model.Masked.{Block, blocks_by, left_by, owned_from, names_behind}
-use Rattle.bt_seq.specs.calls.MaskState.{KnowsEarlier, KnowsOwn, last_chrom, owner_by, owners_are_found, Matched, is_it, owner_of, goes_on, left_at_last, next_goes_on_or_begins, left_after}
+use Rattle.bt_seq.specs.calls.MaskState.{KnowsEarlier, KnowsOwn, last_chrom, owner_by, owners_are_found, Matched, is_it, owner_of, goes_on_block, left_at_last, next_goes_on_or_begins, left_after}
 use Rattle.bt_seq.specs.declared.mask.matching.Owner.{Owner}
 use Rattle.bt_seq.specs.declared.mask.matching.Owner.TheVariants.{Own, Earlier, Nobody}
 
@@ -40,11 +40,11 @@ leave_all left (r ∷ rs) = leave_on (left_by left r.chrom) r.chrom rs ∙ (grin
 
 -- one more
 more_on : (left : Option (List (List ℕ))) (last : Option (List ℕ)) (s : Feature) (ss : List Feature) (r : Feature)
-    → leave left last ((s ∷ ss) ++ r ∷ []) ≡ cond (goes_on (s ∷ ss) r) (leave left last (s ∷ ss)) (left_by (leave left last (s ∷ ss)) r.chrom)
+    → leave left last ((s ∷ ss) ++ r ∷ []) ≡ cond (goes_on_block (s ∷ ss) r) (leave left last (s ∷ ss)) (left_by (leave left last (s ∷ ss)) r.chrom)
 more_on left last s [] r = refl
 more_on left last s (t ∷ ss) r = more_on (one_leaves left last s) (Some s.chrom) t ss r
 
-more : (left : Option (List (List ℕ))) (rs : List Feature) (r : Feature) → leave left None (rs ++ r ∷ []) ≡ cond (goes_on rs r) (leave left None rs) (left_by (leave left None rs) r.chrom)
+more : (left : Option (List (List ℕ))) (rs : List Feature) (r : Feature) → leave left None (rs ++ r ∷ []) ≡ cond (goes_on_block rs r) (leave left None rs) (left_by (leave left None rs) r.chrom)
 more left [] r = refl
 more left (s ∷ ss) r = more_on left None s ss r
 
@@ -74,18 +74,18 @@ behind_last chrom name [] none = refl
 behind_last chrom name (n ∷ ns) none = behind_first chrom name n ns (bytes_eq n chrom) none (behind_last chrom name ns)
 
 module _ (names : List (List ℕ)) (records : List Feature) (m : Matched) (r : Feature) where
-  next_left : (left : Option (List (List ℕ))) → left_after names records ≡ left → left_after names (records ++ r ∷ []) ≡ cond (goes_on records r) left (left_by left r.chrom)
-  next_left left e = goes_on_or_begins names records r ∙ ap (λ left. cond (goes_on records r) left (left_by left r.chrom)) e
+  next_left : (left : Option (List (List ℕ))) → left_after names records ≡ left → left_after names (records ++ r ∷ []) ≡ cond (goes_on_block records r) left (left_by left r.chrom)
+  next_left left e = goes_on_or_begins names records r ∙ ap (λ left. cond (goes_on_block records r) left (left_by left r.chrom)) e
 
-  found_at : m.last ≡ last_chrom records → KnowsOwn names records m ⊎ KnowsEarlier names records m → (goes_on records r ≡ false → (e : KnowsEarlier names records m) → names_behind r.chrom e.before ≡ None)
+  found_at : m.last ≡ last_chrom records → KnowsOwn names records m ⊎ KnowsEarlier names records m → (goes_on_block records r ≡ false → (e : KnowsEarlier names records m) → names_behind r.chrom e.before ≡ None)
       → owner_of m r.chrom ≡ owner_by (left_after names (records ++ r ∷ []))
   found_at last (inl k) none =
-      owner_is m r.chrom true (goes_on records r) (ap (λ l. is_it l r.chrom) last ∙ (grind arith)) k.own
+      owner_is m r.chrom true (goes_on_block records r) (ap (λ l. is_it l r.chrom) last ∙ (grind arith)) k.own
       ∙ (grind arith)
       ∙ sym (ap owner_by (next_left (Some []) k.left))
   found_at last (inr k) none =
-      owner_is m r.chrom false (goes_on records r) (ap (λ l. is_it l r.chrom) last ∙ (grind arith)) k.own
-      ∙ ap (λ n. found_by false (goes_on records r) (is_it n r.chrom)) k.named
+      owner_is m r.chrom false (goes_on_block records r) (ap (λ l. is_it l r.chrom) last ∙ (grind arith)) k.own
+      ∙ ap (λ n. found_by false (goes_on_block records r) (is_it n r.chrom)) k.named
       ∙ (grind (arith, some_left, behind_last))
       ∙ sym (ap owner_by (next_left (Some (k.before ++ k.name ∷ [])) k.left))
 

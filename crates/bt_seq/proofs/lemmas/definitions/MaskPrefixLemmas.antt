@@ -7,14 +7,14 @@ use Rattle.bt_bed.specs.calls.Orders.{AreInBlocks, IsBlockUpTo}
 use Rattle.bt_lines.specs.model.Lines.{end_bytes}
 use Rattle.bt_seq.proofs.lemmas.definitions.KnowsLemmas.{leave, leave_all}
 use Rattle.bt_seq.proofs.lemmas.Sam.{Tagged, decided_tagged, last_from, next_left, own_in, own_tagged, tag_decides, tags, tags_append, tags_of, AllHaveOne, blocks_have_one, spread, tag_items, tags_all}
-use Rattle.bt_seq.specs.calls.MaskStage.{decided_lines_stay, masked_lines_are_before, masked_lines_stay, first_unowned_is_told, owned_lack_none, held_mask_alone, extent_of, held_for}
-use Rattle.bt_seq.specs.model.Masked.{covers, decided, is_unnamed, masked_from, masked_text, block_decides, items_if_last, left_by, own_records, SequenceLine, bases_in, bases_up_to, is_header, no_sequence, told_at_first, Block, Owned, blocks_by, owned_from}
+use Rattle.bt_seq.specs.calls.MaskStage.{decided_lines_stay, masked_lines_are_before, masked_lines_stay, first_unowned_is_told, owned_lack_none, held_mask_alone, extent_of, held_for_line}
+use Rattle.bt_seq.specs.model.Masked.{record_covers, line_decided, is_unnamed, masked_from, masked_text, block_decides, items_if_last, left_by, own_records, SequenceLine, bases_in, bases_up_to, is_sequence_header, no_sequence, told_at_first, Block, Owned, blocks_by, owned_from}
 use Rattle.bt_seq.specs.declared.mask.mask_how.MaskHow.{MaskHow}
 use Rattle.std.specs.Prelude.{find}
 use Rattle.bt_lines.specs.model.Fault.{FaultValue}
 use Rattle.bt_lines.specs.declared.fault.Input.TheVariants.{Second}
 use Rattle.bt_lines.specs.declared.fault.Kind.TheVariants.{NoSequence}
-use Rattle.bt_seq.specs.inside.Window.{has_position, masked_in}
+use Rattle.bt_seq.specs.inside.Window.{extent_has, masked_in}
 use Rattle.bt_seq.specs.declared.mask.extent.Extent.{Extent}
 
 abbrev pub chrom_of : Feature → List ℕ
@@ -22,7 +22,7 @@ chrom_of r = r.chrom
 
 -- whether records decide a line, record by record
 pub decided_by_tags : (line : SequenceLine) (records : List Feature)
-    → decided line records ≡ (is_unnamed line.names || list_any (tag_decides (bases_up_to line)) (tags_of line.names records))
+    → line_decided line records ≡ (is_unnamed line.names || list_any (tag_decides (bases_up_to line)) (tags_of line.names records))
 decided_by_tags line records = ap (λ b. is_unnamed line.names || b) (decided_tagged (bases_up_to line) line.names records)
 
 pub decided_stays : decided_lines_stay
@@ -97,7 +97,7 @@ module _ (bases : ℕ) where
       → AreBehind bases (own_in (tags chrom_of (leave left last rs) (last_from last rs) (r ∷ more)))
   before_all left last rs r more e placed = grind (arith, before_split, list_any-append, tags_append)
 
-  no_cover : (position : ℕ) (rs : List Feature) → position < bases → AreBehind bases rs → list_any (covers position) rs ≡ false
+  no_cover : (position : ℕ) (rs : List Feature) → position < bases → AreBehind bases rs → list_any (record_covers position) rs ≡ false
   no_cover position [] low h = refl
   no_cover position (r ∷ rs) low h = grind (arith, (no_cover position rs low h.1))
 
@@ -122,7 +122,7 @@ own_split names rs more = grind (arith, (own_tagged names (rs ++ more)), (tags_a
 
 module _ (how : MaskHow) (line : SequenceLine) where
   abbrev text_by : List Feature → List ℕ
-  text_by own = cond (is_header line.text) line.text (masked_from how own line.before line.text)
+  text_by own = cond (is_sequence_header line.text) line.text (masked_from how own line.before line.text)
 
   stay_text : (rs more : List Feature) → AreInBlocks (rs ++ more) → (u : Bool) → is_unnamed line.names ≡ u → (u || list_any (tag_decides (bases_up_to line)) (tags_of line.names rs)) ≡ true
       → masked_text how (rs ++ more) line ≡ masked_text how rs line
@@ -150,12 +150,12 @@ module _ (line : SequenceLine) where
   held_by_tags : (rs : List Feature) (r : Feature) → AreInBlocks (rs ++ r ∷ []) → (u : Bool)
       → is_unnamed line.names ≡ u
       → (u || list_any (tag_decides (bases_up_to line)) (tags_of line.names (rs ++ r ∷ []))) ≡ true
-      → held_for line (rs ++ r ∷ []) ≡ held_for line rs
+      → held_for_line line (rs ++ r ∷ []) ≡ held_for_line line rs
   held_by_tags rs r placed true u e = grind (arith, unnamed_own)
   held_by_tags rs r placed false u e = grind (arith, (own_split line.names rs (r ∷ [])), held_same, (before_all (bases_up_to line) (Some line.names) None rs r [] e placed))
 
   pub held_before : (rs : List Feature) (r : Feature) → AreInBlocks (rs ++ r ∷ [])
-      → decided line (rs ++ r ∷ []) ≡ true → held_for line (rs ++ r ∷ []) ≡ held_for line rs
+      → line_decided line (rs ++ r ∷ []) ≡ true → held_for_line line (rs ++ r ∷ []) ≡ held_for_line line rs
   held_before rs r placed e = grind (arith, held_by_tags, decided_by_tags)
 
 pub masked_stay : masked_lines_stay
@@ -233,17 +233,17 @@ first_is_told = grind (arith, told_tagged, first_told, leave_all)
 
 module _ (from to position : ℕ) (low : from ≤ position) (high : position < to) where
   any_held_at : (r : Feature) (rs : List Feature) (t : Bool) → (nat_lt r.start to && nat_lt from r.stop) ≡ t
-      → list_any (has_position position) (map extent_of (filter (λ (r : Feature). nat_lt r.start to && nat_lt from r.stop) rs)) ≡ list_any (covers position) rs
-      → list_any (has_position position) (map extent_of (cond t (r ∷ filter (λ (r : Feature). nat_lt r.start to && nat_lt from r.stop) rs) (filter (λ (r : Feature). nat_lt r.start to && nat_lt from r.stop) rs))) ≡ list_any (covers position) (r ∷ rs)
+      → list_any (extent_has position) (map extent_of (filter (λ (r : Feature). nat_lt r.start to && nat_lt from r.stop) rs)) ≡ list_any (record_covers position) rs
+      → list_any (extent_has position) (map extent_of (cond t (r ∷ filter (λ (r : Feature). nat_lt r.start to && nat_lt from r.stop) rs) (filter (λ (r : Feature). nat_lt r.start to && nat_lt from r.stop) rs))) ≡ list_any (record_covers position) (r ∷ rs)
   any_held_at r rs t e rest = grind arith
 
   -- of the positions in between, the records that reach into them cover those that all cover
-  any_held : (rs : List Feature) → list_any (has_position position) (map extent_of (filter (λ (r : Feature). nat_lt r.start to && nat_lt from r.stop) rs)) ≡ list_any (covers position) rs
+  any_held : (rs : List Feature) → list_any (extent_has position) (map extent_of (filter (λ (r : Feature). nat_lt r.start to && nat_lt from r.stop) rs)) ≡ list_any (record_covers position) rs
   any_held [] = refl
   any_held (r ∷ rs) = any_held_at r rs (nat_lt r.start to && nat_lt from r.stop) refl (any_held rs)
 
 masked_alike : (how : MaskHow) (extents : List Extent) (records : List Feature) (bases : List ℕ) (position : ℕ)
-    → ((at : ℕ) → position ≤ at → at < position + length bases → list_any (has_position at) extents ≡ list_any (covers at) records)
+    → ((at : ℕ) → position ≤ at → at < position + length bases → list_any (extent_has at) extents ≡ list_any (record_covers at) records)
     → masked_in how extents position bases ≡ masked_from how records position bases
 masked_alike how extents records [] position h = refl
 masked_alike how extents records (base ∷ bases) position h = grind (arith, (masked_alike how extents records bases (suc position) (λ at low high. h at (omega arith) (omega arith))))
@@ -252,5 +252,5 @@ pub held_alone : held_mask_alone
 held_alone how line records plain =
     let own = own_records line.names records in
     let count : bases_in line.text ≡ length line.text = ap (λ b. cond b 0 (length line.text)) plain in
-    masked_alike how (map extent_of (held_for line records)) own line.text line.before (λ at low high. any_held line.before (line.before + bases_in line.text) at low (omega (arith, high, count)) own)
+    masked_alike how (map extent_of (held_for_line line records)) own line.text line.before (λ at low high. any_held line.before (line.before + bases_in line.text) at low (omega (arith, high, count)) own)
     ∙ sym (ap (λ b. cond b line.text (masked_from how own line.before line.text)) plain)

@@ -12,7 +12,7 @@ use Rattle.bt_sweep.specs.model.Hits.{decides}
 use Rattle.bt_sweep.specs.calls.Held.{CanHit}
 use Rattle.bt_sweep.specs.model.Lines.{intersect}
 use Rattle.bt_sweep.specs.calls.Sweeping.{AreDecided, CannotBeHeld, CannotHold, GivesKnown, LeavesLast, TakenEach, TakenFor, has_room, held_for, is_held, Sweeping}
-use Rattle.bt_sweep.specs.inside.Joining.{AreDecidedOn, GivenLast, Breaks, CutsOff, EndUpTo, Holds, Joins, JoinsSo, Keeps, LeavesOn, LieOn, Proceeded, WritesSo, has_room_in, holding, stands}
+use Rattle.bt_sweep.specs.inside.Joining.{AreDecidedOn, GivenLast, Breaks, BreaksOff, EndUpTo, HoldsDue, Joins, JoinsSo, KeepsRules, LeavesOn, LieOn, JoinProceeded, WritesSo, has_room_in, holding_second, stands}
 use Rattle.bt_sweep.proofs.lemmas.definitions.HitLemmas.{placed_back, front_placed}
 use Rattle.bt_sweep.proofs.lemmas.sweep.KeepLemmas.{cut_both, decided_before, decided_behind, decided_both, keeps_held, keeps_taken, lines_both, lines_stay_so, undecided_beside, fails_again, with_none, with_rest, with_rest_cut, fewer_firsts, fewer_seconds, goes_none, same_as, same_rules, split_last, split_more, writes_first}
 
@@ -111,7 +111,7 @@ module _ {A B R S : Type 0} {cursor_a : Cursor A R} {cursor_b : Cursor B S} {old
 
   module _ {cur : Feature} {s : Sweeping} {to_a : A} {to_b : B} {left : List ℕ} {grown : Output} (j : JoinsSo cursor_a cursor_b IsTotal (AreDecidedOn first.chrom) old first from_a from_b pending out (Some cur) s to_a to_b left grown) {b : Feature} {after : B} (gives_b : cursor_b.gives to_b (b ∷ []) after) (on : b.chrom ≡ first.chrom) where
     -- where it is once the records before the one that waits were given and taken
-    holds_so : (at : GivenLast IsTotal first j.proceeds.firsts j.proceeds.seconds old) → Holds at.order ((at.before ++ j.proceeds.newly) ++ cur ∷ []) (at.taken ++ j.proceeds.seconds) s
+    holds_so : (at : GivenLast IsTotal first j.proceeds.firsts j.proceeds.seconds old) → HoldsDue at.order ((at.before ++ j.proceeds.newly) ++ cur ∷ []) (at.taken ++ j.proceeds.seconds) s
     holds_so at = rw (← split_last at.before j.proceeds.newly cur j.proceeds.are) (j.goes at).holds
 
     module _ (a_more : (old mid new : A) (xs ys : List Feature) → cursor_a.gives old xs mid → cursor_a.gives mid ys new → cursor_a.gives old (xs ++ ys) new) (front : j.proceeds.next ≡ None) where
@@ -138,7 +138,7 @@ module _ {A B R S : Type 0} {cursor_a : Cursor A R} {cursor_b : Cursor B S} {old
         }
 
       abbrev proceeds_on : (firsts2 newly2 : List Feature) (waiting : Option Feature) (to_a2 : A) → cursor_a.gives to_a firsts2 to_a2 → cur ∷ firsts2 ≡ newly2 ++ option_to_list waiting → EndUpTo cur.chrom b.start newly2
-          → Proceeded cursor_a cursor_b IsTotal (AreDecidedOn first.chrom) old first from_a from_b waiting to_a2 to_b
+          → JoinProceeded cursor_a cursor_b IsTotal (AreDecidedOn first.chrom) old first from_a from_b waiting to_a2 to_b
       proceeds_on firsts2 newly2 waiting to_a2 given are end = record {
         firsts = j.proceeds.firsts ++ firsts2;
         seconds = j.proceeds.seconds;
@@ -179,7 +179,7 @@ module _ {A B R S : Type 0} {cursor_a : Cursor A R} {cursor_b : Cursor B S} {old
       joins_past a_none s2 to_a2 rest now cur2 (inr same) = rw (same.0, same.1, same.2, same.3, same.4) (joins_write (writes_first a_none j.waits.1))
 
       -- they couldn't all be
-      pub breaks_write : {to_a2 : A} (rest : List ℕ) {now : Output} {fault : FaultValue} → CutsOff cursor_a b.start s cur to_a left grown fault to_a2 now → Breaks cursor_a cursor_b IsTotal (AreDecidedOn first.chrom) old first from_a from_b pending out fault to_a2 to_b rest now
+      pub breaks_write : {to_a2 : A} (rest : List ℕ) {now : Output} {fault : FaultValue} → BreaksOff cursor_a b.start s cur to_a left grown fault to_a2 now → Breaks cursor_a cursor_b IsTotal (AreDecidedOn first.chrom) old first from_a from_b pending out fault to_a2 to_b rest now
       breaks_write {to_a2} rest cut = record {
         proceeds = proceeds_on cut.firsts cut.newly cut.waiting to_a2 cut.given cut.are cut.end;
         waiting = cut.waiting;
@@ -193,7 +193,7 @@ module _ {A B R S : Type 0} {cursor_a : Cursor A R} {cursor_b : Cursor B S} {old
       settled_by : AreDecidedOn first.chrom j.proceeds.newly (j.proceeds.seconds ++ b ∷ [])
       settled_by = rw next at j.proceeds.settles
 
-      module _ (new : Sweeping) (is : new ≡ holding s cur b) (room : is_held cur b ≡ true → has_room_in s ≡ true) (at : GivenLast IsTotal first j.proceeds.firsts (j.proceeds.seconds ++ b ∷ []) old) where
+      module _ (new : Sweeping) (is : new ≡ holding_second s cur b) (room : is_held cur b ≡ true → has_room_in s ≡ true) (at : GivenLast IsTotal first j.proceeds.firsts (j.proceeds.seconds ++ b ∷ []) old) where
         abbrev fewer : GivenLast IsTotal first j.proceeds.firsts j.proceeds.seconds old
         fewer = fewer_seconds j.proceeds.seconds (b ∷ []) at
 
@@ -209,7 +209,7 @@ module _ {A B R S : Type 0} {cursor_a : Cursor A R} {cursor_b : Cursor B S} {old
         decided_now : AreDecided at.order j.proceeds.newly ((at.taken ++ j.proceeds.seconds) ++ b ∷ [])
         decided_now = rw both at (decided_behind at.order j.proceeds.newly at.taken (j.proceeds.seconds ++ b ∷ []) (settled_by at.order at.is_for known))
 
-        holds_now : Holds at.order ((at.before ++ j.proceeds.newly) ++ cur ∷ []) ((at.taken ++ j.proceeds.seconds) ++ b ∷ []) (holding s cur b)
+        holds_now : HoldsDue at.order ((at.before ++ j.proceeds.newly) ++ cur ∷ []) ((at.taken ++ j.proceeds.seconds) ++ b ∷ []) (holding_second s cur b)
         holds_now = keeps_taken (at.before ++ j.proceeds.newly) cur (holds_so fewer) b undecided room
 
         taken_for : TakenFor at.order old.limit (first ∷ j.proceeds.firsts) (at.taken ++ j.proceeds.seconds) b
@@ -223,8 +223,8 @@ module _ {A B R S : Type 0} {cursor_a : Cursor A R} {cursor_b : Cursor B S} {old
           within = rw (← (j.goes fewer).same.limit_is, ← keeps_held (at.before ++ j.proceeds.newly) cur holds_now) holds_now.within;
         }
 
-        keeps_now : Keeps at.order (at.before ++ first ∷ j.proceeds.firsts) (at.taken ++ (j.proceeds.seconds ++ b ∷ [])) old new
-        keeps_now = rw (is, split_last at.before j.proceeds.newly cur j.proceeds.are, both) (record { same = same_rules (j.goes fewer).same (same_as s (holding s cur b).held); holds = holds_now })
+        keeps_now : KeepsRules at.order (at.before ++ first ∷ j.proceeds.firsts) (at.taken ++ (j.proceeds.seconds ++ b ∷ [])) old new
+        keeps_now = rw (is, split_last at.before j.proceeds.newly cur j.proceeds.are, both) (record { same = same_rules (j.goes fewer).same (same_as s (holding_second s cur b).held); holds = holds_now })
 
         same_lines : intersect old.shape old.rule j.proceeds.newly (at.taken ++ (j.proceeds.seconds ++ b ∷ [])) ≡ intersect old.shape old.rule j.proceeds.newly (at.taken ++ j.proceeds.seconds)
         same_lines =
@@ -232,7 +232,7 @@ module _ {A B R S : Type 0} {cursor_a : Cursor A R} {cursor_b : Cursor B S} {old
             grind (arith, both, lines_stay_so, decided_now)
 
       -- b was taken
-      pub joins_take : ((old mid new : B) (xs ys : List Feature) → cursor_b.gives old xs mid → cursor_b.gives mid ys new → cursor_b.gives old (xs ++ ys) new) → (new : Sweeping) → new ≡ holding s cur b → (is_held cur b ≡ true → has_room_in s ≡ true)
+      pub joins_take : ((old mid new : B) (xs ys : List Feature) → cursor_b.gives old xs mid → cursor_b.gives mid ys new → cursor_b.gives old (xs ++ ys) new) → (new : Sweeping) → new ≡ holding_second s cur b → (is_held cur b ≡ true → has_room_in s ≡ true)
           → All (CanHit cur) new.held → (k : JoinsSo cursor_a cursor_b IsTotal (AreDecidedOn first.chrom) old first from_a from_b pending out (Some cur) new to_a after left grown) × (k.proceeds.next ≡ None) × LeavesOn k.proceeds.seconds cur
       joins_take b_more new is room hits = (
         record {

@@ -11,7 +11,7 @@ use Rattle.bt_sweep.proofs.lemmas.Active.{filter-wider}
 use Rattle.bt_sweep.proofs.lemmas.definitions.HitLemmas.{hit_overlaps, before_lines, stay_lines, filter_less, held_less, within_less, within_more, last_given-push, front_placed}
 use Rattle.bt_bed.proofs.lemmas.parse.NameLemmas.{same_name, name_eq}
 use Rattle.bt_sweep.specs.calls.Held.{AreReady, AreOnOne, CanHit, CanHitAt, AreRising}
-use Rattle.bt_sweep.specs.inside.Joining.{are_on, GrownWith, PutsOr, NeedsHit, GivenLast, GoesToFor, Holds, has_room_in, held_with, holding, CutsOff, EndUpTo, WritesFor, WritesSo}
+use Rattle.bt_sweep.specs.inside.Joining.{are_on, GrownWith, PutsOr, NeedsHit, GivenLast, GoesToFor, HoldsDue, has_room_in, held_with, holding_second, BreaksOff, EndUpTo, WritesFor, WritesSo}
 use Rattle.bt_lines.specs.model.Fault.{FaultValue}
 use Rattle.bt_lines.specs.calls.Faults.{write_failed}
 use Rattle.bt_lines.specs.calls.Names.{fault_value}
@@ -163,7 +163,7 @@ module _ (inside now : Sweeping) (same : inside ≡ now) (a : Feature) (pending 
 
 -- Lemmas on what a sweep keeps as records are given and taken.
 
-module _ {order : Order} (gs : List Feature) (a : Feature) {taken : List Feature} {s : Sweeping} (kept : Holds order (gs ++ a ∷ []) taken s) where
+module _ {order : Order} (gs : List Feature) (a : Feature) {taken : List Feature} {s : Sweeping} (kept : HoldsDue order (gs ++ a ∷ []) taken s) where
   pub keeps_held : s.held ≡ filter (is_held a) taken
   keeps_held = kept.holds.held_is ∙ ap (λ (o : Option Feature). held_for o taken) (last_given-push gs a)
 
@@ -175,7 +175,7 @@ module _ {order : Order} (gs : List Feature) (a : Feature) {taken : List Feature
 
   -- one more of the first input on its chromosome
   keeps_next : (r : Feature) → IsTotal order → ArePlaced order (intervals_of ((gs ++ a ∷ []) ++ r ∷ [])) → a.chrom ≡ r.chrom
-      → Holds order ((gs ++ a ∷ []) ++ r ∷ []) taken (record s { held = filter (λ b. ltb r.start b.stop) s.held })
+      → HoldsDue order ((gs ++ a ∷ []) ++ r ∷ []) taken (record s { held = filter (λ b. ltb r.start b.stop) s.held })
   keeps_next r total placed same =
       let is : held_behind (last_given (gs ++ a ∷ [])) s.held r ≡ filter (λ b. ltb r.start b.stop) s.held =
       ap (λ (o : Option Feature). held_behind o s.held r) (last_given-push gs a)
@@ -186,12 +186,12 @@ module _ {order : Order} (gs : List Feature) (a : Feature) {taken : List Feature
       }
 
   -- one more of the second, which leaves it undecided
-  pub keeps_taken : (b : Feature) → decides order a b ≡ false → (is_held a b ≡ true → has_room_in s ≡ true) → Holds order (gs ++ a ∷ []) (taken ++ b ∷ []) (holding s a b)
+  pub keeps_taken : (b : Feature) → decides order a b ≡ false → (is_held a b ≡ true → has_room_in s ≡ true) → HoldsDue order (gs ++ a ∷ []) (taken ++ b ∷ []) (holding_second s a b)
   keeps_taken b undecided room = record { holds = holds_b order gs taken s.held a b kept.holds undecided; within = within_more s.limit a b s.held room kept.within }
 
 -- the first of the first input on a chromosome
-pub keeps_first : {order : Order} {gs : List Feature} (a : Feature) {taken : List Feature} {s : Sweeping} → IsTotal order → ArePlaced order (intervals_of (gs ++ a ∷ [])) → Holds order gs taken s
-    → Holds order (gs ++ a ∷ []) taken (record s { held = held_with s.held a })
+pub keeps_first : {order : Order} {gs : List Feature} (a : Feature) {taken : List Feature} {s : Sweeping} → IsTotal order → ArePlaced order (intervals_of (gs ++ a ∷ [])) → HoldsDue order gs taken s
+    → HoldsDue order (gs ++ a ∷ []) taken (record s { held = held_with s.held a })
 keeps_first {order} {gs} a {taken} {s} total placed kept = record {
   holds = rw (held_is_behind order gs taken s.held a kept.holds) (holds_a order gs taken s.held a total placed kept.holds);
   within = within_less s.limit (length s.held) (length (held_with s.held a)) (held_less s.held a) kept.within;
@@ -306,7 +306,7 @@ module _ {A R : Type 0} {cursor : Cursor A R} {place : ℕ} {old : Sweeping} {fi
     writes_rest puts = grind (arith, with_rest)
 
     -- or couldn't all be
-    pub cuts_rest : {fault : FaultValue} → FailsToAdd grown left fault now → CutsOff cursor place old first from pending out fault to now
+    pub cuts_rest : {fault : FaultValue} → FailsToAdd grown left fault now → BreaksOff cursor place old first from pending out fault to now
     cuts_rest fails = record {
       firsts = so.firsts;
       newly = so.newly;
@@ -319,7 +319,7 @@ module _ {A R : Type 0} {cursor : Cursor A R} {place : ℕ} {old : Sweeping} {fi
 
   module _ {cur : Feature} {s : Sweeping} {to : A} {left : List ℕ} {grown : Output} (so : WritesSo cursor place old first from pending out (Some cur) s to left grown) where
     -- what is kept, by the one that waits
-    holds_so : (at : GivenLast IsTotal first so.firsts [] old) → Holds at.order ((at.before ++ so.newly) ++ cur ∷ []) (at.taken ++ []) s
+    holds_so : (at : GivenLast IsTotal first so.firsts [] old) → HoldsDue at.order ((at.before ++ so.newly) ++ cur ∷ []) (at.taken ++ []) s
     holds_so at = rw (← split_last at.before so.newly cur so.are) (so.goes at).holds
 
     module _ {rest : List ℕ} {now : Output} (adds : AreRising s.held → GrownWith left grown (lines_for s.shape s.rule cur s.held) rest now) where
@@ -356,7 +356,7 @@ module _ {A R : Type 0} {cursor : Cursor A R} {place : ℕ} {old : Sweeping} {fi
       }
 
     -- its lines couldn't be written
-    pub cuts_off : {fault : FaultValue} {now : Output} → cur.stop ≤ place → (AreRising s.held → FailsToAdd grown (left ++ lines_for s.shape s.rule cur s.held) fault now) → CutsOff cursor place old first from pending out fault to now
+    pub cuts_off : {fault : FaultValue} {now : Output} → cur.stop ≤ place → (AreRising s.held → FailsToAdd grown (left ++ lines_for s.shape s.rule cur s.held) fault now) → BreaksOff cursor place old first from pending out fault to now
     cuts_off up fails = record {
       firsts = so.firsts;
       newly = so.newly ++ cur ∷ [];

@@ -14,7 +14,7 @@ use Rattle.bt_bed.proofs.lemmas.parse.NameLemmas.{name_ne}
 use Rattle.bt_sweep.specs.calls.Sweeping.{IsThis, Settles, AreDecided, ComesNext, LeavesLast, TakenEach, HoldsFor, is_held, Sweeping}
 use Rattle.bt_sweep.specs.model.Hits.{decides}
 use Rattle.bt_sweep.specs.calls.Held.{CanHit}
-use Rattle.bt_sweep.specs.inside.Joining.{AreDecidedOn, GivenLast, EndUpTo, Holds, Joins, Keeps, LeavesOn, LieOn, Proceeded, SkipsAll, WritesUpTo, Compares, Relates, going_on, stands}
+use Rattle.bt_sweep.specs.inside.Joining.{AreDecidedOn, GivenLast, EndUpTo, HoldsDue, Joins, KeepsRules, LeavesOn, LieOn, JoinProceeded, SkipsAll, WritesUpTo, Compares, Relates, going_on, stands}
 use Rattle.bt_sweep.specs.declared.sweep.state.Phase.TheVariants.{SecondEnded}
 use Rattle.bt_sweep.specs.declared.sweep.relation.Relation.TheVariants.{After}
 use Rattle.bt_sweep.proofs.lemmas.sweep.JoinLemmas.{joins_first, leaves_none}
@@ -43,10 +43,10 @@ module _ (order : Order) (total : IsTotal order) (a : Feature) (known : order.kn
       subst (λ (t : List Feature). HoldsFor order (gs ++ a ∷ []) t held) (append_assoc taken (b ∷ []) seconds) (holds_before gs (taken ++ b ∷ []) held seconds on.1 one)
 
   -- each was taken for the first
-  each_before : {old : Sweeping} (before : List Feature) {taken : List Feature} (seconds : List Feature) → LieOn name seconds → Holds order (before ++ a ∷ []) taken old → TakenEach order old.limit (a ∷ []) taken seconds
+  each_before : {old : Sweeping} (before : List Feature) {taken : List Feature} (seconds : List Feature) → LieOn name seconds → HoldsDue order (before ++ a ∷ []) taken old → TakenEach order old.limit (a ∷ []) taken seconds
   each_before before [] on kept = tt
   each_before {old} before {taken} (b ∷ seconds) on kept =
-      let next : Holds order (before ++ a ∷ []) (taken ++ b ∷ []) old = record { holds = holds_before before taken old.held (b ∷ []) (on.0, tt) kept.holds; within = kept.within } in (
+      let next : HoldsDue order (before ++ a ∷ []) (taken ++ b ∷ []) old = record { holds = holds_before before taken old.held (b ∷ []) (on.0, tt) kept.holds; within = kept.within } in (
         record { before = []; a = a; after = []; parts = refl; settled = refl; undecided = undecided_before b on.0; within = rw (← keeps_held before a next) next.within },
         each_before before seconds on.1 next,
       )
@@ -78,7 +78,7 @@ module _ {A B R S : Type 0} (cursor_a : Cursor A R) (cursor_b : Cursor B S) (fea
     each_at : TakenEach at.order old.limit (first ∷ []) at.taken seconds
     each_at = each_before at.order (rw at.is_for total) first (rw at.is_for known) name (rw at.is_for compared) at.before seconds on at.holds
 
-    keeps_at : Keeps at.order (at.before ++ first ∷ []) (at.taken ++ seconds) old old
+    keeps_at : KeepsRules at.order (at.before ++ first ∷ []) (at.taken ++ seconds) old old
     keeps_at = record {
       same = same_as old old.held;
       holds = record { holds = holds_before at.order (rw at.is_for total) first (rw at.is_for known) name (rw at.is_for compared) at.before at.taken old.held seconds on at.holds.holds; within = at.holds.within };
@@ -108,8 +108,8 @@ module _ {A B R S : Type 0} (cursor_a : Cursor A R) (cursor_b : Cursor B S) (fea
     λ before b e. undecided_before order total first known (cursor_b.name from_b) lies.compared b (lie_last (cursor_b.name from_b) before b (subst (LieOn (cursor_b.name from_b)) e skip.on)),
   )
 
-  abbrev proceeds_beside : {waiting : Option Feature} {to_a : A} {to_b : B} → Proceeded cursor_a cursor_b IsTotal (AreDecidedOn first.chrom) old first from_a from_b waiting to_a to_b
-      → Proceeded cursor_a (going_on old.phase cursor_b) (IsThis order) (Settles order old.phase) old first from_a from_b waiting to_a to_b
+  abbrev proceeds_beside : {waiting : Option Feature} {to_a : A} {to_b : B} → JoinProceeded cursor_a cursor_b IsTotal (AreDecidedOn first.chrom) old first from_a from_b waiting to_a to_b
+      → JoinProceeded cursor_a (going_on old.phase cursor_b) (IsThis order) (Settles order old.phase) old first from_a from_b waiting to_a to_b
   proceeds_beside p = record {
     firsts = p.firsts;
     seconds = p.seconds;
@@ -155,7 +155,7 @@ module _ {A B R S : Type 0} (cursor_a : Cursor A R) (cursor_b : Cursor B S) (fea
   settles_of behind newly end = grind (arith, after_decided)
 
   abbrev proceeds_after : (firsts newly : List Feature) (waiting : Option Feature) (to_a : A) → ((x : B) → cursor_b.gives x [] x) → IsBehind → cursor_a.gives from_a firsts to_a → first ∷ firsts ≡ newly ++ option_to_list waiting
-      → EndUpTo first.chrom max_number newly → Proceeded cursor_a (going_on old.phase cursor_b) (IsThis order) (Settles order old.phase) old first from_a from_b waiting to_a from_b
+      → EndUpTo first.chrom max_number newly → JoinProceeded cursor_a (going_on old.phase cursor_b) (IsThis order) (Settles order old.phase) old first from_a from_b waiting to_a from_b
   proceeds_after firsts newly waiting to_a b_none behind given are end = record {
     firsts = firsts;
     seconds = [];

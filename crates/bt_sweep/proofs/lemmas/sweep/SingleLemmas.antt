@@ -16,7 +16,7 @@ use Rattle.bt_sweep.specs.calls.Sweeping.{AdvancesOn, AdvancesSo, FailsAt, HasWr
 use Rattle.bt_bed.specs.calls.Stage.{given, Stage, with_second}
 use Rattle.bt_sweep.specs.model.Hits.{decides}
 use Rattle.bt_sweep.specs.model.Lines.{intersect, lines_for}
-use Rattle.bt_sweep.specs.inside.Joining.{GivenLast, Breaks, Holds, JoinsSo, StopsAt, going_on}
+use Rattle.bt_sweep.specs.inside.Joining.{GivenLast, Breaks, HoldsDue, JoinsSo, LacksNext, going_on}
 use Rattle.bt_sweep.specs.declared.hits.hit_rule.HitRule.{HitRule}
 use Rattle.bt_sweep.specs.declared.sweep.state.Phase.TheVariants.{SecondEnded}
 use Rattle.bt_sweep.specs.declared.output.shape.Shape.{Shape}
@@ -261,7 +261,7 @@ module _ {order : Order} {stage : Stage Feature Feature} {a : Feature} {old : Sw
   given_last : given stage ≡ stage.written ++ a ∷ []
   given_last = ap (λ (o : Option Feature). stage.written ++ option_to_list o) waits
 
-  holds_last : Holds order (stage.written ++ a ∷ []) stage.taken mid
+  holds_last : HoldsDue order (stage.written ++ a ∷ []) stage.taken mid
   holds_last = rw mid_is (record { holds = rw given_last at st.holds; within = st.within })
 
   last_placed : (firsts : List Feature) → firsts ≡ [] → ArePlaced order (intervals_of (stage.written ++ a ∷ firsts))
@@ -290,7 +290,7 @@ module _ {order : Order} {stage : Stage Feature Feature} {a : Feature} {old : Sw
 
   module _ {to_a to_b : Single} {grown : Output} where
     pub ends_b : {final : Sweeping} {waiting : Option Feature} (j : JoinsSo single_cursor (going_on mid.phase single_cursor) (IsThis order) (Settles order mid.phase) mid a from_a from_b [] out waiting final to_a to_b [] grown)
-        → StopsAt single_cursor (going_on mid.phase single_cursor) waiting to_a to_b → final.current ≡ None → final.phase ≡ mid.phase → EndsB {A = Unit {0}} order stage a old out (Ok tt) final grown
+        → LacksNext single_cursor (going_on mid.phase single_cursor) waiting to_a to_b → final.current ≡ None → final.phase ≡ mid.phase → EndsB {A = Unit {0}} order stage a old out (Ok tt) final grown
     ends_b j stops gone phase =
         let no_seconds = single_none from_b to_b j.proceeds.seconds empty_b j.proceeds.gives_seconds in
         let at = place j.proceeds.firsts j.proceeds.seconds (single_none from_a to_a j.proceeds.firsts empty_a j.proceeds.gives_firsts) no_seconds in

@@ -11,10 +11,10 @@ use Rattle.bt_bed.specs.model.Order.{Order}
 use Rattle.bt_bed.specs.calls.Bed.{GivesSingle, single_left}
 use Rattle.bt_bed.specs.declared.read.cursor.Cursor.{Ghosts as Cursor}
 use Rattle.bt_bed.specs.declared.read.cursor.Single.{Single}
-use Rattle.bt_sweep.specs.calls.Sweeping.{AdvancesOn, AdvancesSo, AtEach, FailsAt, IsThis, Proceeded, PutsEach, Settles, StopsFor, stage_after, LeavesLast, SameConfig, MovesTo, StandsAt, Sweeping, is_over, want_in, want_of, no_cursor}
+use Rattle.bt_sweep.specs.calls.Sweeping.{AdvancesOn, AdvancesSo, AtEach, FailsAt, IsThis, Proceeded, PutsEach, Settles, StopsFor, stage_after, LeavesLast, SameConfig, MovesTo, StandsAt, Sweeping, phase_is_over, want_in, want_of, no_cursor}
 use Rattle.bt_bed.specs.calls.Stage.{given, Stage}
 use Rattle.bt_sweep.specs.model.Lines.{intersect}
-use Rattle.bt_sweep.specs.inside.Joining.{GivenLast, Breaks, Holds, JoinsSo, Keeps, Proceeded as Joined, WritesFor, KeepsOne, going_on, held_with}
+use Rattle.bt_sweep.specs.inside.Joining.{GivenLast, Breaks, HoldsDue, JoinsSo, KeepsRules, JoinProceeded as Joined, WritesFor, KeepsOne, going_on, held_with}
 use Rattle.bt_sweep.specs.declared.sweep.state.Phase.{Phase}
 use Rattle.bt_sweep.specs.declared.sweep.state.Phase.TheVariants.{Both, SecondEnded, Over}
 use Rattle.bt_sweep.specs.declared.sweep.Want.TheVariants.{A as WantA, B as WantB}
@@ -31,7 +31,7 @@ still_both phase first over = grind arith
 -- `first` is the record that waited, or else comes first: these are given with it. It holds what it has to then.
 pub record StartsAt (order : Order) (old mid : Sweeping) (first : Feature) (pre : List Feature) : Type 0 where
   pub pre_is : option_to_list old.current ++ pre ≡ first ∷ []
-  pub holds : (stage : Stage Feature Feature) → StandsAt order stage old → ArePlaced order (intervals_of (stage.written ++ first ∷ [])) → Holds order (stage.written ++ first ∷ []) stage.taken mid
+  pub holds : (stage : Stage Feature Feature) → StandsAt order stage old → ArePlaced order (intervals_of (stage.written ++ first ∷ [])) → HoldsDue order (stage.written ++ first ∷ []) stage.taken mid
   pub same : SameConfig old mid
   pub phase : mid.phase ≡ old.phase
 
@@ -40,7 +40,7 @@ pub starts_entered : {order : Order} {old mid : Sweeping} {first : Feature} → 
 starts_entered {order} {old} {mid} {first} total none is = rw is (record {
   pre_is = ap (λ (o : Option Feature). option_to_list o ++ first ∷ []) none;
   holds = λ stage st placed.
-      let now : Holds order (given stage) stage.taken old = record { holds = st.holds; within = st.within } in
+      let now : HoldsDue order (given stage) stage.taken old = record { holds = st.holds; within = st.within } in
       keeps_first first total placed (rw (ap (λ (o : Option Feature). stage.written ++ option_to_list o) (sym st.current_is ∙ none) ∙ append-nil stage.written) at now);
   same = same_as old (held_with old.held first);
   phase = refl;
@@ -65,7 +65,7 @@ pub want_a : (s : Sweeping) → s.current ≡ None → (s.phase ≡ Over → ⊥
 want_a s none going = grind arith
 
 pub want_b : (s : Sweeping) (a : Feature) → s.current ≡ Some a → want_in s ≡ WantB
-want_b s a some = ap (λ (o : Option Feature). want_of (is_some o) (is_over s.phase)) some
+want_b s a some = ap (λ (o : Option Feature). want_of (is_some o) (phase_is_over s.phase)) some
 
 -- ---- from there on
 
@@ -90,7 +90,7 @@ module _ {order : Order} {old mid : Sweeping} {first : Feature} {pre : List Feat
   IsOpen waiting = is_some waiting ≡ true → (stage : Stage Feature Feature) → StandsAt order stage old → (stage.first_ended ≡ false) × (stage.second_ended ≡ false)
 
   stands_from : {stage : Stage Feature Feature} {firsts : List Feature} (seconds newly : List Feature) {waiting : Option Feature} {new final : Sweeping} → StandsAt order stage old
-      → Keeps order (stage.written ++ first ∷ firsts) (stage.taken ++ seconds) mid new → first ∷ firsts ≡ newly ++ option_to_list waiting → new.phase ≡ old.phase → final ≡ record new { current = waiting } → IsOpen waiting
+      → KeepsRules order (stage.written ++ first ∷ firsts) (stage.taken ++ seconds) mid new → first ∷ firsts ≡ newly ++ option_to_list waiting → new.phase ≡ old.phase → final ≡ record new { current = waiting } → IsOpen waiting
       → MovesTo order old (stage_after stage newly final.current seconds) final
   stands_from seconds newly st k are phase is goes_on = grind (arith, append_assoc)
 

@@ -2,7 +2,7 @@ use Rattle.bt_lines.proofs.Std.{Ok, Err, ◌∙◌, ap, sym, is_ok, err_from_is_
 use Rattle.bt_tool.specs.calls.Plan.{words_seen}
 use Rattle.bt_tool.specs.model.Table.{table_of}
 use Rattle.bt_tool.proofs.lemmas.Options.{options-no_command, fault-items, fault-tellable, fault-word, plan-items, same_table, together_at}
-use Rattle.bt_tool.specs.calls.Given.{items_in}
+use Rattle.bt_tool.specs.calls.Given.{items_of_words}
 use Rattle.bt_tool.proofs.planning.planned.Goals as goal
 
 pub returns-in_err-tool-clause-refused : goal.returns-in_err-tool-clause-refused
@@ -44,7 +44,7 @@ made-requires c =
     let same = same_table c.in_ok-given.given.table.now c.table-table.result (table_of c.in_ok-tool.tool) c.in_ok-given.ensures.0 c.table-table.ensures in
     record {
       table = same;
-      whole = together_at (items_in c.in_ok-given.given) c.in_ok-given.given.table.now (table_of c.in_ok-tool.tool) _ same c.in_ok-check.ensures;
+      whole = together_at (items_of_words c.in_ok-given.given) c.in_ok-given.given.table.now (table_of c.in_ok-tool.tool) _ same c.in_ok-check.ensures;
     }
 
 pub returns-in_err-made-clause-refused : goal.returns-in_err-made-clause-refused

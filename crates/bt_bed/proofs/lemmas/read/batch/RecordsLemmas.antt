@@ -1,7 +1,7 @@
 -- Lemmas on the reader of records.
 use Rattle.bt_lines.proofs.Std.{common_steps, arith, ◌≡◌, ℕ, Bool, true, false, List, [], ◌∷◌, Option, Some, None, Ok, Err, take, refl, sym, ap, ◌∙◌, subst, IfSome, IsSome, IsTrue, Result, option_map, ForSome, false≢true, ◌≤◌, bytes_eq, ◌&&◌, is_some, nat_lt, unwrap_or, nat_tests, bytes_eq-Decides, ◌+◌, ◌<◌, ◌++◌, drop, length, length-append, IfNone, strip_last, take-append-add, take-append_seam, ◌-◌, slice_range, take-add}
 use Rattle.bt_lines.specs.declared.device.Source.{Ghosts as Source}
-use Rattle.bt_lines.specs.calls.Reader.{input_of, lines_left, fault_kept as line_fault, lines_in, lines_after, line_of, rest_in}
+use Rattle.bt_lines.specs.calls.Reader.{input_of, lines_left, fault_kept as line_fault, lines_in, lines_after, shown_text_line, rest_in}
 use Rattle.bt_lines.specs.declared.fault.Fault.{Fault}
 use Rattle.bt_lines.specs.declared.reader.line_reader.LineReader.{LineReader}
 use Rattle.bt_bed.proofs.lemmas.Definitions.{line_said}
@@ -219,14 +219,14 @@ unfolding left cursor_in
 none_either batch bytes e none some = grind (arith, common_steps, run_nil)
 
 module _ (batch : Batch) (line : List ℕ) (front : take (length line) (rest_in (cursor_in batch)) ≡ line) (cut : Cut (rest_in (cursor_in batch)) (shown_of line))
-    (first : lines_in (cursor_in batch) ≡ line_of (cursor_in batch) (shown_of line) ∷ lines_after (cursor_in batch) (length line + 1)) where
+    (first : lines_in (cursor_in batch) ≡ shown_text_line (cursor_in batch) (shown_of line) ∷ lines_after (cursor_in batch) (length line + 1)) where
   -- the record of the next line, which doesn't start below, comes next
   pub stands_first : (raw : RawRecord) → IsOnLine line (chrom_in batch) raw → start_in batch ≤ (record_in raw).start → StandsFirst batch raw
   unfolding left left_after chrom_in start_in cursor_in text_in raw_in rest_in
   stands_first raw is above = record {
     left_is =
         ap (λ l. run_of batch.name.now batch.start l) first
-        ∙ run_some (chrom_in batch) (start_in batch) (line_of (cursor_in batch) (shown_of line)) (lines_after (cursor_in batch) (length line + 1)) (record_in raw)
+        ∙ run_some (chrom_in batch) (start_in batch) (shown_text_line (cursor_in batch) (shown_of line)) (lines_after (cursor_in batch) (length line + 1)) (record_in raw)
         (placed_there (chrom_in batch) (start_in batch) (strip_last 13 line) (record_in raw) is.says is.chrom above)
         ∙ ap (λ l. record_in raw ∷ (run_of batch.name.now (record_in raw).start (drop 1 l))) (sym first);
     line = shown_of line;

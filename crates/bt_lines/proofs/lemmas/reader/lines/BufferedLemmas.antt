@@ -9,7 +9,7 @@ use Rattle.bt_lines.specs.calls.Line.{Cut, Shown, ending_at, NoLineFeed, IsFirst
 use Rattle.bt_lines.specs.model.Lines.{TextLine, fed_line}
 use Rattle.bt_lines.specs.calls.Output.{block_size}
 use Rattle.bt_lines.specs.inside.ReadBuffer.{complete, unread, lends_at, open_at, told_at}
-use Rattle.bt_lines.specs.calls.Reader.{GivesLine, IsKept, IsSound, has_ended, held, input_of, lines_given, source_of, BeginsLines, buffered_lines, line_of, lines_after, lines_in, rest_in, IsWhere, PassesLines, TakenLines, buffered_bytes, is_open}
+use Rattle.bt_lines.specs.calls.Reader.{GivesLine, IsKept, IsSound, has_ended, held, input_of, lines_given, source_of, BeginsLines, buffered_lines, shown_text_line, lines_after, lines_in, rest_in, IsWhere, PassesLines, TakenLines, buffered_bytes, is_open}
 use Rattle.bt_lines.specs.inside.Shape.{AreComplete, IsLast, held_at, is_fed}
 use Rattle.bt_lines.specs.declared.reader.line.LineEnd.{LineEnd}
 use Rattle.bt_lines.specs.declared.reader.line.LineEnd.TheVariants.{Absent, Lf, CrLf, Cr}
@@ -180,7 +180,7 @@ cut_of : (bytes line : List ℕ) → IsBefore 10 bytes (length line) → take (l
 cut_of bytes line before front inside = grind (arith, common_steps)
 
 pub line_first : (cursor : BufferedLines) (line : List ℕ) → IsBefore 10 (rest_in cursor) (length line) → take (length line) (rest_in cursor) ≡ line → 0 < length (rest_in cursor)
-    → Cut (rest_in cursor) (shown_of line) × (lines_in cursor ≡ line_of cursor (shown_of line) ∷ lines_after cursor (length line + 1))
+    → Cut (rest_in cursor) (shown_of line) × (lines_in cursor ≡ shown_text_line cursor (shown_of line) ∷ lines_after cursor (length line + 1))
 unfolding rest_in lines_in
 line_first cursor line before front some =
     let rest = drop cursor.at cursor.all.now in

@@ -4,8 +4,8 @@ use Rattle.std.specs.List.{last_or}
 use Rattle.bt_bed.specs.model.Feature.{Feature}
 use Rattle.bt_seq.proofs.lemmas.definitions.KnowsLemmas.{owners_found, goes_on_or_begins}
 use Rattle.bt_seq.proofs.lemmas.mask.steps.CopyLemmas.{left_grows, last_more}
-use Rattle.bt_seq.specs.calls.MaskStage.{IsNext}
-use Rattle.bt_seq.specs.calls.MaskState.{Knows, KnowsEarlier, last_chrom, owner_by, Matched, is_it, matched_with, named, owner_of, goes_on, left_after}
+use Rattle.bt_seq.specs.calls.MaskStage.{MayComeNext}
+use Rattle.bt_seq.specs.calls.MaskState.{Knows, KnowsEarlier, last_chrom, owner_by, Matched, is_it, matched_with, named, owner_of, goes_on_block, left_after}
 use Rattle.bt_seq.specs.inside.Masking.{KnowsAhead, KnowsLast, KnowsNext, KnowsNone}
 use Rattle.bt_seq.specs.model.Masked.{is_unnamed, left_by, names_behind}
 use Rattle.bt_seq.specs.declared.mask.matching.Owner.TheVariants.{Nobody}
@@ -19,7 +19,7 @@ chrom_more rs r = ap (option_map (λ (s : Feature). s.chrom)) (last_more rs r)
 bytes_same : (name : List ℕ) → bytes_eq name name ≡ true
 bytes_same name = (bytes_decides name name).1 refl
 
-goes_more : (rs : List Feature) (r : Feature) → goes_on (rs ++ r ∷ []) r ≡ true
+goes_more : (rs : List Feature) (r : Feature) → goes_on_block (rs ++ r ∷ []) r ≡ true
 goes_more rs r = sym (grind arith) ∙ ap (λ l. is_it l r.chrom) (chrom_more rs r) ∙ bytes_same r.chrom
 
 -- the last of a list with one more
@@ -32,16 +32,16 @@ snoc_front (a ∷ c ∷ xs) [] x y e = absurd (let apart : a ∷ c ∷ (xs ++ x 
 snoc_front (a ∷ xs) (b ∷ ys) x y e = grind (arith, (snoc_front xs ys x y (cc)))
 
 module _ (names : List (List ℕ)) (taken : List Feature) (r : Feature) (m : Matched) where
-  next_left : left_after names (taken ++ r ∷ []) ≡ cond (goes_on taken r) (left_after names taken) (left_by (left_after names taken) r.chrom)
+  next_left : left_after names (taken ++ r ∷ []) ≡ cond (goes_on_block taken r) (left_after names taken) (left_by (left_after names taken) r.chrom)
   next_left = goes_on_or_begins names taken r
 
   -- the record may be taken
   pub record MayTake : Type 0 where
     pub knows : Knows names taken m
-    pub none : goes_on taken r ≡ false → (e : KnowsEarlier names taken m) → names_behind r.chrom e.before ≡ None
-    pub near : goes_on taken r ≡ true → (e : KnowsEarlier names taken m) → e.before ≡ []
+    pub none : goes_on_block taken r ≡ false → (e : KnowsEarlier names taken m) → names_behind r.chrom e.before ≡ None
+    pub near : goes_on_block taken r ≡ true → (e : KnowsEarlier names taken m) → e.before ≡ []
 
-  goes_is : Knows names taken m → is_it m.last r.chrom ≡ goes_on taken r
+  goes_is : Knows names taken m → is_it m.last r.chrom ≡ goes_on_block taken r
   goes_is k = ap (λ l. is_it l r.chrom) k.last ∙ (grind arith)
 
   pub may_last : KnowsLast names taken m → MayTake
@@ -51,7 +51,7 @@ module _ (names : List (List ℕ)) (taken : List Feature) (r : Feature) (m : Mat
   owner_may k = owners_found names taken m r k.knows k.none
 
   -- it goes on with the last block
-  goes_known : MayTake → goes_on taken r ≡ true → KnowsLast names (taken ++ r ∷ []) (matched_with m r.chrom)
+  goes_known : MayTake → goes_on_block taken r ≡ true → KnowsLast names (taken ++ r ∷ []) (matched_with m r.chrom)
   goes_known k goes =
       let left : left_after names (taken ++ r ∷ []) ≡ left_after names taken = next_left ∙ ap (λ b. cond b (left_after names taken) (left_by (left_after names taken) r.chrom)) goes in
       let known : Knows names (taken ++ r ∷ []) m = record {
@@ -65,7 +65,7 @@ module _ (names : List (List ℕ)) (taken : List Feature) (r : Feature) (m : Mat
       rw (goes_is k.knows ∙ goes) (record { knows = known; near = near })
 
   -- it begins a block of the last sequence
-  begins_known : MayTake → goes_on taken r ≡ false → (owner_of m r.chrom ≡ Nobody → ⊥) → KnowsLast names (taken ++ r ∷ []) (matched_with m r.chrom)
+  begins_known : MayTake → goes_on_block taken r ≡ false → (owner_of m r.chrom ≡ Nobody → ⊥) → KnowsLast names (taken ++ r ∷ []) (matched_with m r.chrom)
   begins_known k begins some = grind (arith, owner_may, bytes_decides, chrom_more)
 
   -- it is taken
@@ -79,7 +79,7 @@ module _ (names : List (List ℕ)) (taken : List Feature) (r : Feature) (m : Mat
   pub take_known : KnowsLast names (taken ++ r ∷ []) m → KnowsLast names (taken ++ r ∷ []) (matched_with m r.chrom)
   take_known k = rw (known_it k) k
 
-  pub next_can_be : (waits : Bool) (ahead : Option Feature) → KnowsNext waits names taken ahead m → IsNext ahead r → KnowsNone names taken m ⊎ (MayTake ⊎ KnowsLast names (taken ++ r ∷ []) m)
+  pub next_can_be : (waits : Bool) (ahead : Option Feature) → KnowsNext waits names taken ahead m → MayComeNext ahead r → KnowsNone names taken m ⊎ (MayTake ⊎ KnowsLast names (taken ++ r ∷ []) m)
   next_can_be waits ahead known next = grind (arith, may_last)
 
   left_none : KnowsNone names taken m → left_after names (taken ++ r ∷ []) ≡ None

@@ -5,7 +5,7 @@ use Rattle.bt_lines.specs.calls.Output.{Output, Adds, Grown}
 use Rattle.bt_lines.specs.model.Lines.{end_bytes}
 use Rattle.bt_lines.specs.declared.fault.Fault.{Fault}
 use Rattle.bt_seq.proofs.lemmas.Sam.{none_masked}
-use Rattle.bt_seq.specs.calls.MaskState.{Keeps, Masking, TakesLine, Waiting, Writes, WritesGiven, decides, decides_by, decides_up_to, is_stray, line_bytes, moved_to, passed, stays_as_given, with_owner, writes_at_once, Matched, matched_with, owner_of}
+use Rattle.bt_seq.specs.calls.MaskState.{Keeps, Masking, TakesSequenceLine, Waiting, WritesWaiting, WritesGiven, decides_line, decides_by, decides_up_to, is_stray, line_bytes, moved_to, passed, stays_as_given, with_owner, writes_at_once, Matched, matched_with, owner_of}
 use Rattle.bt_seq.specs.model.Masked.{ends_name}
 use Rattle.bt_seq.specs.declared.mask.MaskWant.TheVariants.{Line, Bed, Nothing}
 use Rattle.bt_seq.specs.declared.mask.matching.Owner.{Owner}
@@ -25,10 +25,10 @@ wrote_given r old new line out grown none adds next stops = grind (arith, none_m
 -- it was kept and then written
 pub wrote_kept : {A : Type 0} (r : Result A Fault) (old kept new : Masking) (line : Waiting) (out grown : Output)
     → kept ≡ record old { waiting = Some line; want = Bed }
-    → ((l : Waiting) → kept.waiting ≡ Some l → Writes kept l out r new grown) → WritesGiven old line out r new grown
+    → ((l : Waiting) → kept.waiting ≡ Some l → WritesWaiting kept l out r new grown) → WritesGiven old line out r new grown
 wrote_kept {A} r old kept new line out grown is writes = grind (arith, kept_by)
   where
-    kept_by : (r : Result A Fault) → Writes (record old { waiting = Some line; want = Bed }) line out r new grown
+    kept_by : (r : Result A Fault) → WritesWaiting (record old { waiting = Some line; want = Bed }) line out r new grown
         → WritesGiven old line out r new grown
     kept_by (Ok done) w = w
     kept_by (Err fault) w = (w.0, inl w.1)
@@ -36,18 +36,18 @@ wrote_kept {A} r old kept new line out grown is writes = grind (arith, kept_by)
 -- a line was written as soon as it was given
 pub writes_line : {A : Type 0} (r : Result A Fault) (old moved new : Masking) (number : ℕ) (line : Waiting) (out grown : Output)
     → (moved ≡ moved_to old line.text) × (is_stray old line.text ≡ false) → writes_at_once moved line.text ≡ true
-    → WritesGiven moved line out r new grown → TakesLine old number line out r new grown
+    → WritesGiven moved line out r new grown → TakesSequenceLine old number line out r new grown
 writes_line r old moved new number line out grown m now writes = grind arith
 
 -- a line was kept until it is decided
 pub keeps_line : {A : Type 0} (r : Result A Fault) (old moved new : Masking) (number : ℕ) (line : Waiting) (out : Output)
     → (moved ≡ moved_to old line.text) × (is_stray old line.text ≡ false) → writes_at_once moved line.text ≡ false
-    → Keeps moved line r new → TakesLine old number line out r new out
+    → Keeps moved line r new → TakesSequenceLine old number line out r new out
 keeps_line r old moved new number line out m later keeps = search rules
 
 -- a line that stays as it was given was written
 pub passes_line : {A : Type 0} (done : A) (old new : Masking) (number : ℕ) (line : Waiting) (out grown : Output)
-    → (stays_as_given old line.text ≡ true) × (new ≡ passed old line.text) × Grown out (line.text ++ end_bytes line.ending) grown → TakesLine old number line out (Ok done) new grown
+    → (stays_as_given old line.text ≡ true) × (new ≡ passed old line.text) × Grown out (line.text ++ end_bytes line.ending) grown → TakesSequenceLine old number line out (Ok done) new grown
 passes_line done old new number line out grown p = grind (arith, none_held, none_masked)
 
 -- a record decided the line that waits, which was written
@@ -57,7 +57,7 @@ pub wrote_line : {old inside new : Masking} (r : Feature) {owner : Owner} {match
     → decides_by owner inside.window.bases r.start ≡ true
     → (new ≡ record inside { matched = matched; decided_to = to; waiting = None; want = Line })
     × Grown out (line_bytes (record inside { matched = matched; decided_to = to }) line) grown
-    → (decides old r ≡ true)
+    → (decides_line old r ≡ true)
     × (new ≡ record (with_owner old r.chrom) { waiting = None; want = Line; decided_to = decides_up_to (owner_of old.matched r.chrom) r.start })
     × Grown out (line_bytes old line) grown
 wrote_line r line k e o m d w = grind arith

@@ -16,9 +16,9 @@ use Rattle.bt_seq.proofs.lemmas.mask.steps.LineStepLemmas.{gives_line}
 use Rattle.bt_seq.proofs.lemmas.mask.bases.MaskingLemmas.{passes_line}
 use Rattle.bt_seq.proofs.lemmas.mask.steps.BedStepLemmas.{decided_goes, goes_more, goes_nowhere, line_goes, record_goes}
 use Rattle.bt_seq.specs.inside.Masking.{CopiesThrough, StayEach, passed_all}
-use Rattle.bt_seq.specs.calls.MaskStage.{PassesLines, GoesOn, IsNext, MaskStage, with_decided, with_line, with_record}
-use Rattle.bt_seq.specs.calls.MaskState.{Masking, TakesLine, passed, stays_as_given}
-use Rattle.bt_seq.specs.calls.MaskSteps.{BothCome, ComesAfter, ComesNext, FailsAtRecord, GivesBoth, HasCome, asks_more, left_to_give, MaskMovesTo, MaskStandsAt, ChecksRecord, GivesBed, TakesNextLine, bytes_with}
+use Rattle.bt_seq.specs.calls.MaskStage.{PassesTextLines, GoesOn, MayComeNext, MaskStage, with_decided, with_line, with_record}
+use Rattle.bt_seq.specs.calls.MaskState.{Masking, TakesSequenceLine, passed, stays_as_given}
+use Rattle.bt_seq.specs.calls.MaskSteps.{BothCome, ComesAfter, GivesAhead, FailsAtRecord, GivesBoth, HasCome, asks_more, left_to_give, MaskMovesTo, MaskStandsAt, ChecksRecord, GivesBed, TakesNextLine, bytes_with}
 use Rattle.bt_seq.specs.model.Masked.{masked_line, SequenceLine}
 use Rattle.bt_seq.specs.declared.mask.mask_how.MaskHow.{MaskHow}
 use Rattle.bt_seq.specs.declared.mask.MaskWant.{MaskWant}
@@ -89,18 +89,18 @@ wants_more old lines out wants done mid left between copies = ap (λ (s : Maskin
 -- what a call with a record says, if a line waits and if none does
 abbrev Waits : Masking → Feature → Output → Result Taken Fault → Masking → Output → Type 0
 Waits old r out answer new grown = (stage : MaskStage) (waiting : SequenceLine) → MaskStandsAt stage old → stage.inputs.waiting ≡ Some waiting
-    → IsNext stage.ahead r → GivesBed old.how old.full stage waiting r out answer new grown
+    → MayComeNext stage.ahead r → GivesBed old.how old.full stage waiting r out answer new grown
 
 abbrev NoneWaits : Masking → Feature → ℕ → Output → Result Taken Fault → Masking → Output → Type 0
 NoneWaits old r number out answer new grown = (stage : MaskStage) → MaskStandsAt stage old → stage.inputs.waiting ≡ None
-    → IsNext stage.ahead r → ChecksRecord old.how old.full stage r number out answer new grown
+    → MayComeNext stage.ahead r → ChecksRecord old.how old.full stage r number out answer new grown
 
 -- while a record is wanted, they go on
 pub going : {stage : MaskStage} {old : Masking} → MaskStandsAt stage old → old.want ≡ Bed → (o : Option SequenceLine) → stage.inputs.waiting ≡ o → stage.inputs.second_ended ≡ false
 going stands wants o e = grind (arith, common_steps)
 
 fails_by : {old : Masking} {r : Feature} {number : ℕ} {out grown : Output} (fault : Fault) (new : Masking) → Waits old r out (Err fault) new grown → NoneWaits old r number out (Err fault) new grown
-    → (stage : MaskStage) → MaskStandsAt stage old → IsNext stage.ahead r → (o : Option SequenceLine) → stage.inputs.waiting ≡ o
+    → (stage : MaskStage) → MaskStandsAt stage old → MayComeNext stage.ahead r → (o : Option SequenceLine) → stage.inputs.waiting ≡ o
     → (new.want ≡ Nothing) × FailsAtRecord old.how old.full o stage r number out (fault_value fault) grown
 fails_by fault new waits none stage stands next None e = none stage stands e next
 fails_by fault new waits none stage stands next (Some a) e = waits stage a stands e next
@@ -108,12 +108,12 @@ fails_by fault new waits none stage stands next (Some a) e = waits stage a stand
 -- a cursor over records, which gave none at first
 module _ {C R : Type 0} (cursor : Cursor C R) (gives_none : (at : C) → cursor.gives at [] at) where
   -- lines leave the record ahead
-  leave_ahead : (records : C) (was now : Option Feature) → now ≡ was → ComesNext cursor was records → ComesNext cursor now records × ComesAfter cursor was records [] now
+  leave_ahead : (records : C) (was now : Option Feature) → now ≡ was → GivesAhead cursor was records → GivesAhead cursor now records × ComesAfter cursor was records [] now
   leave_ahead records was now same next = (rw same next, λ r is. inl (sym same ∙ is, refl))
 
   -- lines were given alone
-  gave_texts : {A : Type 0} {answer : Result A Fault} {old new : Masking} {lines left : BufferedLines} {records : C} {out grown : Output} (texts : List TextLine) → PassesLines lines texts left
-      → ((stage : MaskStage) → MaskStandsAt stage old → ComesNext cursor stage.ahead records → BothCome cursor old.how old.full stage texts [] out records answer new records grown)
+  gave_texts : {A : Type 0} {answer : Result A Fault} {old new : Masking} {lines left : BufferedLines} {records : C} {out grown : Output} (texts : List TextLine) → PassesTextLines lines texts left
+      → ((stage : MaskStage) → MaskStandsAt stage old → GivesAhead cursor stage.ahead records → BothCome cursor old.how old.full stage texts [] out records answer new records grown)
       → GivesBoth cursor old lines records out answer new left records grown
   gave_texts {records} texts passes comes = record { texts = texts; passes = passes; taken = []; given = gives_none records; comes = comes }
 
@@ -128,8 +128,8 @@ module _ {C R : Type 0} (cursor : Cursor C R) (gives_none : (at : C) → cursor.
           let c = copied_from copies.texts stage stands copies.stay in
           record { stage = c.now; bytes = flat_map spelled copies.texts; goes_on = c.goes; stands = rw copies.writes.0 c.stands; puts = copies.writes.1 }
 
-      leave_first : (stage : MaskStage) (stands : MaskStandsAt stage old) → ComesNext cursor stage.ahead records → (now : Option Feature) → now ≡ (come_first stage stands).stage.ahead
-          → ComesNext cursor now records × ComesAfter cursor stage.ahead records [] now
+      leave_first : (stage : MaskStage) (stands : MaskStandsAt stage old) → GivesAhead cursor stage.ahead records → (now : Option Feature) → now ≡ (come_first stage stands).stage.ahead
+          → GivesAhead cursor now records × ComesAfter cursor stage.ahead records [] now
       leave_first stage stands next now same = leave_ahead records stage.ahead now (same ∙ (copied_from copies.texts stage stands copies.stay).ahead) next
 
       -- no line comes after those that were copied through
@@ -141,7 +141,7 @@ module _ {C R : Type 0} (cursor : Cursor C R) (gives_none : (at : C) → cursor.
 
       -- one does
       module _ (line : TextLine) {last : BufferedLines} (passes : PassesLine left line last) {new : Masking} {grown : Output} where
-        pub gave_line : {B D : Type 0} (took : B) {given : D} → TakesLine mid line.number (record { text = line.text; ending = line.ending }) between (Ok took) new grown
+        pub gave_line : {B D : Type 0} (took : B) {given : D} → TakesSequenceLine mid line.number (record { text = line.text; ending = line.ending }) between (Ok took) new grown
             → GivesBoth cursor old lines records out (Ok given) new last records grown
         gave_line took takes = gave_texts (copies.texts ++ line ∷ []) (grind (arith, append_assoc, length-append)) (λ stage stands next.
             let first = come_first stage stands in
@@ -157,7 +157,7 @@ module _ {C R : Type 0} (cursor : Cursor C R) (gives_none : (at : C) → cursor.
             let same = leave_first stage stands next _ (grind arith) in
             (come_more first one, same.0, same.1))
 
-        pub failed_line : {D : Type 0} (fault : Fault) → TakesLine {A = Unit {0}} mid line.number (record { text = line.text; ending = line.ending }) between (Err fault) new grown
+        pub failed_line : {D : Type 0} (fault : Fault) → TakesSequenceLine {A = Unit {0}} mid line.number (record { text = line.text; ending = line.ending }) between (Err fault) new grown
             → GivesBoth cursor {A = D} old lines records out (Err fault) new last records grown
         failed_line fault takes = gave_texts (copies.texts ++ line ∷ []) (grind (arith, append_assoc, length-append)) (λ stage stands next.
             let first = come_first stage stands in
@@ -204,7 +204,7 @@ module _ {C R : Type 0} (cursor : Cursor C R) (gives_none : (at : C) → cursor.
   module _ {old : Masking} {records later : C} (r : Feature) (given : cursor.gives records (r ∷ []) later)
       {number : ℕ} (number_is : number ≡ cursor.line later) (wants : old.want ≡ Bed) {out grown : Output} {new : Masking} where
     took_by : Waits old r out (Ok Yes) new grown → NoneWaits old r number out (Ok Yes) new grown
-        → (stage : MaskStage) → MaskStandsAt stage old → IsNext stage.ahead r → (o : Option SequenceLine) → stage.inputs.waiting ≡ o → (grown ≡ out) × MaskMovesTo old.how old.full (with_record stage r) new
+        → (stage : MaskStage) → MaskStandsAt stage old → MayComeNext stage.ahead r → (o : Option SequenceLine) → stage.inputs.waiting ≡ o → (grown ≡ out) × MaskMovesTo old.how old.full (with_record stage r) new
     took_by waits none stage stands next None e = let t = none stage stands e next in (t.1, t.0)
     took_by waits none stage stands next (Some a) e = let t = waits stage a stands e next in (t.same_output, t.stands)
 
@@ -232,7 +232,7 @@ module _ {C R : Type 0} (cursor : Cursor C R) (gives_none : (at : C) → cursor.
 
     -- the record that was left is the one ahead
     come_left : ((old mid new : C) (x y : Feature) (ys : List Feature) → cursor.gives old (x ∷ []) mid → cursor.gives old (y ∷ ys) new → x ≡ y) → Waits old r out (Ok No) new grown
-        → NoneWaits old r number out (Ok No) new grown → {A : Type 0} (done : A) (stage : MaskStage) → MaskStandsAt stage old → IsNext stage.ahead r → (o : Option SequenceLine) → stage.inputs.waiting ≡ o
+        → NoneWaits old r number out (Ok No) new grown → {A : Type 0} (done : A) (stage : MaskStage) → MaskStandsAt stage old → MayComeNext stage.ahead r → (o : Option SequenceLine) → stage.inputs.waiting ≡ o
         → BothCome cursor old.how old.full stage [] [] out records (Ok done) new records grown
     come_left gives_same waits none done stage stands next None e = absurd (none stage stands e next)
     come_left gives_same waits none done stage stands next (Some a) e =
@@ -283,11 +283,11 @@ module _ {C R : Type 0} (cursor : Cursor C R) (gives_more : (old mid new : C) (x
   module _ {new : Masking} {left : BufferedLines} {last : C} {grown : Output} where
     -- what was given changes neither how it masks nor how it names sequences
     comes_then : {B : Type 0} {answer : Result B Fault} (rest : GivesBoth cursor mid between passing through answer new left last grown) (stage : MaskStage) (stands : MaskStandsAt stage old)
-        (next : ComesNext cursor stage.ahead records) → BothCome cursor old.how old.full (first.comes stage stands next).0.stage rest.texts rest.taken through passing answer new last grown
+        (next : GivesAhead cursor stage.ahead records) → BothCome cursor old.how old.full (first.comes stage stands next).0.stage rest.texts rest.taken through passing answer new last grown
     comes_then rest stage stands next = let f = first.comes stage stands next in rw (← f.0.stands.how_is, ← f.0.stands.full_is) (rest.comes f.0.stage f.0.stands.stands f.1)
 
     both : {B D : Type 0} {answer : Result B Fault} (result : Result D Fault) (rest : GivesBoth cursor mid between passing through answer new left last grown)
-        → ((stage : MaskStage) → MaskStandsAt stage old → ComesNext cursor stage.ahead records
+        → ((stage : MaskStage) → MaskStandsAt stage old → GivesAhead cursor stage.ahead records
         → BothCome cursor old.how old.full stage (first.texts ++ rest.texts) (first.taken ++ rest.taken) out records result new last grown)
         → GivesBoth cursor old lines records out result new left last grown
     both result rest comes = record {

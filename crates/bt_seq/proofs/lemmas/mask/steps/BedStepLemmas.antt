@@ -14,11 +14,11 @@ use Rattle.bt_seq.proofs.lemmas.mask.bases.KnownLemmas.{MayTake, never, next_can
 use Rattle.bt_seq.proofs.lemmas.definitions.MaskPrefixLemmas.{blocks_front, decided_stays, held_before, masked_before, masked_stay}
 use Rattle.bt_seq.proofs.lemmas.mask.steps.CopyLemmas.{decided_more, own_more, last_waits, stands_at, wants_bed, last_more}
 use Rattle.bt_bed.specs.calls.Stage.{Follows, Stage, given, with_first}
-use Rattle.bt_seq.specs.calls.MaskStage.{extent_of, IsNext, MaskStage, reached, want_of, with_decided, with_record, SayEach, GoesOn, MayFollow, SettlesLines, is_written_ahead, is_written_at_once, reached_by, with_line, held_for}
-use Rattle.bt_seq.specs.calls.MaskState.{owner_by, owner_of, Masking, TakesBed, Writes, decides, decides_up_to, holding, holds, holds_by, line_bytes, with_owner, with_extent, left_after}
+use Rattle.bt_seq.specs.calls.MaskStage.{extent_of, MayComeNext, MaskStage, reached, mask_want_of, with_decided, with_record, SayEach, GoesOn, MayFollow, SettlesLines, is_written_ahead, is_written_at_once, reached_by, with_line, held_for_line}
+use Rattle.bt_seq.specs.calls.MaskState.{owner_by, owner_of, Masking, TakesBed, WritesWaiting, decides_line, decides_up_to, holding, holds, holds_by, line_bytes, with_owner, with_extent, left_after}
 use Rattle.bt_seq.specs.inside.Masking.{Counts, IsDecided, KnowsLast, KnowsNone, decided_up_to}
 use Rattle.bt_seq.specs.calls.MaskSteps.{MaskMovesTo, IsAtStage, Waits, kept_line, ChecksRecord, EndsRecords, GivesBed, LacksSequence, WritesLine, bytes_with}
-use Rattle.bt_seq.specs.model.Masked.{decided, masked_line, block_decides, items_if_last, own_records, SequenceLine, bases_up_to, is_unnamed, Reached, line_says}
+use Rattle.bt_seq.specs.model.Masked.{line_decided, masked_line, block_decides, items_if_last, own_records, SequenceLine, bases_up_to, is_unnamed, Reached, line_says}
 use Rattle.bt_seq.specs.inside.Window.{Bounds, limit}
 use Rattle.bt_seq.specs.declared.mask.mask_how.MaskHow.{MaskHow}
 use Rattle.bt_seq.specs.declared.mask.MaskWant.TheVariants.{Line, Bed}
@@ -35,7 +35,7 @@ module _ (line : SequenceLine) (r : Feature) (range : r.stop ≤ max_number) whe
   reaches r = nat_lt r.start (bases_up_to line) && nat_lt line.before r.stop
 
   -- one more record may be held
-  held_more : (rs : List Feature) → held_for line (rs ++ r ∷ []) ≡ held_for line rs ++ filter reaches (items_if_last (left_after line.names (rs ++ r ∷ [])) (r ∷ []))
+  held_more : (rs : List Feature) → held_for_line line (rs ++ r ∷ []) ≡ held_for_line line rs ++ filter reaches (items_if_last (left_after line.names (rs ++ r ∷ [])) (r ∷ []))
   held_more rs = ap (filter reaches) (own_more line.names rs r) ∙ filter-append reaches (own_records line.names rs) (items_if_last (left_after line.names (rs ++ r ∷ [])) (r ∷ []))
 
   module _ (w : Bounds) (before : w.before ≡ min line.before limit) where
@@ -61,7 +61,7 @@ module _ (how : MaskHow) (full : Bool) (stage : MaskStage) (line : SequenceLine)
   pub kept_is : old.waiting ≡ Some (kept_line line)
   kept_is = stands.stands.waiting_is ∙ ap (λ (w : Option SequenceLine). option_map kept_line w) waits
 
-  undecided_yet : decided line stage.inputs.taken ≡ false
+  undecided_yet : line_decided line stage.inputs.taken ≡ false
   undecided_yet = open_undecided line stage.inputs.taken as_waits.named (at_last.is_open as_waits.lines)
 
   bytes_are : line_bytes old (kept_line line) ≡ masked_line how stage.inputs.taken line
@@ -70,7 +70,7 @@ module _ (how : MaskHow) (full : Bool) (stage : MaskStage) (line : SequenceLine)
   given_last : last_or None ((stage.inputs.written ++ option_to_list stage.inputs.waiting) ++ []) ≡ Some line
   given_last = ap (last_or None) (append-nil (stage.inputs.written ++ option_to_list stage.inputs.waiting)) ∙ last_waits stage line waits
 
-  module _ (r : Feature) (some : r.start < r.stop) (range : r.stop ≤ max_number) (next : IsNext stage.ahead r) where
+  module _ (r : Feature) (some : r.start < r.stop) (range : r.stop ≤ max_number) (next : MayComeNext stage.ahead r) where
     abbrev left : Option (List (List ℕ))
     left = left_after line.names (stage.inputs.taken ++ r ∷ [])
 
@@ -80,20 +80,20 @@ module _ (how : MaskHow) (full : Bool) (stage : MaskStage) (line : SequenceLine)
     owner_is : owner_of old.matched r.chrom ≡ owner_by left
     owner_is = owner_next line.names stage.inputs.taken r old.matched can at_last.inside.name_is
 
-    decides_is : decides old r ≡ block_decides (bases_up_to line) left (r ∷ [])
+    decides_is : decides_line old r ≡ block_decides (bases_up_to line) left (r ∷ [])
     decides_is = grind (arith, nat_tests, owner_is, at_last)
 
-    decided_is : decided line (stage.inputs.taken ++ r ∷ []) ≡ decides old r
+    decided_is : line_decided line (stage.inputs.taken ++ r ∷ []) ≡ decides_line old r
     decided_is = decided_more line stage.inputs.taken r ∙ ap (λ b. b || block_decides (bases_up_to line) left (r ∷ [])) undecided_yet ∙ sym decides_is
 
     holds_is : holds old r ≡ holds_by (owner_by left) old.window r
     holds_is = ap (λ o. holds_by o old.window r) owner_is
 
-    taken_stands : decides old r ≡ false → MaskMovesTo how full (with_record stage r) (holding old r)
+    taken_stands : decides_line old r ≡ false → MaskMovesTo how full (with_record stage r) (holding old r)
     taken_stands e =
         let undecided : block_decides (bases_up_to line) left (r ∷ []) ≡ false = sym decides_is ∙ e in
         let owned : is_some left ≡ true = grind arith in
-        let held : old.window.held ≡ map extent_of (held_for line stage.inputs.taken) =
+        let held : old.window.held ≡ map extent_of (held_for_line line stage.inputs.taken) =
         at_last.holds (inl as_waits.lines) in
         stands_at how full (with_record stage r) (holding old r) (Some line) (last_waits stage line waits) stands.how_is stands.full_is (record {
           waiting_is = at_last.waiting_is;
@@ -104,7 +104,7 @@ module _ (how : MaskHow) (full : Bool) (stage : MaskStage) (line : SequenceLine)
               ap (λ h. (with_extent h old.window r.start r.stop).held) holds_is
               ∙ extent_more line r range old.window at_last.inside.counts.before left undecided
               ∙ ap (λ (l : List Extent). l ++ map extent_of (filter (reaches line r range) (items_if_last left (r ∷ [])))) held
-              ∙ sym (map-append extent_of (held_for line stage.inputs.taken) (filter (reaches line r range) (items_if_last left (r ∷ []))))
+              ∙ sym (map-append extent_of (held_for_line line stage.inputs.taken) (filter (reaches line r range) (items_if_last left (r ∷ []))))
               ∙ sym (ap (map extent_of) (held_more line r range stage.inputs.taken));
           is_open = λ d. inr (decided_is ∙ e);
           owned = owned;
@@ -114,7 +114,7 @@ module _ (how : MaskHow) (full : Bool) (stage : MaskStage) (line : SequenceLine)
             is_decided = λ n. absurd (let apart : Some line ≡ None = sym waits ∙ n in cc);
             in_range = range_more stage.inputs.taken r at_last.inside.in_range range;
             knows = λ d. inr (take_next line.names stage.inputs.taken r old.matched can owned);
-            has_ahead = λ d. absurd (let apart : Bed ≡ Line = sym (ap (λ (w : Option SequenceLine). want_of (is_some w) stage.inputs.first_ended stage.inputs.second_ended) waits) ∙ d in cc);
+            has_ahead = λ d. absurd (let apart : Bed ≡ Line = sym (ap (λ (w : Option SequenceLine). mask_want_of (is_some w) stage.inputs.first_ended stage.inputs.second_ended) waits) ∙ d in cc);
             ahead_in_range = λ a d. absurd (let apart : None ≡ Some a = d in cc);
             decided_to_is = λ n going a d. absurd (let apart : None ≡ Some a = d in cc);
           };
@@ -127,11 +127,11 @@ module _ (how : MaskHow) (full : Bool) (stage : MaskStage) (line : SequenceLine)
       decided_to = decides_up_to (owner_of old.matched r.chrom) r.start;
     }
 
-    decided_stands : decides old r ≡ true → MaskMovesTo how full (with_decided stage r) after_decided
+    decided_stands : decides_line old r ≡ true → MaskMovesTo how full (with_decided stage r) after_decided
     decided_stands e =
         stands_at how full (with_decided stage r) after_decided (Some line) given_last stands.how_is stands.full_is (record {
           waiting_is = refl;
-          want_is = sym (ap (λ b. want_of false b stage.inputs.second_ended) as_waits.lines);
+          want_is = sym (ap (λ b. mask_want_of false b stage.inputs.second_ended) as_waits.lines);
           bed_ended_is = at_last.bed_ended_is;
           waits = λ l d. absurd (let apart : None ≡ Some l = d in cc);
           holds = at_last.holds;
@@ -156,7 +156,7 @@ module _ (how : MaskHow) (full : Bool) (stage : MaskStage) (line : SequenceLine)
         })
 
     module _ (out : Output) (new : Masking) (grown : Output) where
-      writes_line : (decides old r ≡ true) → Grown out (line_bytes old (kept_line line)) grown → new ≡ after_decided → WritesLine how full stage line r out new grown
+      writes_line : (decides_line old r ≡ true) → Grown out (line_bytes old (kept_line line)) grown → new ≡ after_decided → WritesLine how full stage line r out new grown
       writes_line e puts is = grind (arith, decided_is, decided_stands, line_masked, at_last, masked_before)
 
       pub gives_bed : (answer : Result Taken Fault) → TakesBed old (kept_line line) r out answer new grown → GivesBed how full stage line r out answer new grown
@@ -164,15 +164,15 @@ module _ (how : MaskHow) (full : Bool) (stage : MaskStage) (line : SequenceLine)
       gives_bed (Ok No) t = writes_line t.0 t.2 t.1
       gives_bed (Err fault) t = grind (arith, decided_is, bytes_are, masked_before, held_more, hold_item, at_last, decides_is, holds_is)
 
-  pub ends_bed : {A : Type 0} (answer : Result A Fault) (out : Output) (new : Masking) (grown : Output) → Writes (record old { bed_ended = true }) (kept_line line) out answer new grown → EndsRecords how full stage line out answer new grown
+  pub ends_bed : {A : Type 0} (answer : Result A Fault) (out : Output) (new : Masking) (grown : Output) → WritesWaiting (record old { bed_ended = true }) (kept_line line) out answer new grown → EndsRecords how full stage line out answer new grown
   ends_bed answer out new grown w = grind (arith, bytes_are, given_last, at_last)
 
 -- after the last line
 module _ (how : MaskHow) (full : Bool) (stage : MaskStage) (none : stage.inputs.waiting ≡ None) (old : Masking) (stands : MaskMovesTo how full stage old) (wants : old.want ≡ Bed) where
   ended : (stage.inputs.first_ended ≡ true) × (stage.inputs.second_ended ≡ false)
-  ended = wants_bed stage.inputs.first_ended stage.inputs.second_ended (sym (ap (λ (w : Option SequenceLine). want_of (is_some w) stage.inputs.first_ended stage.inputs.second_ended) none) ∙ sym stands.stands.want_is ∙ wants)
+  ended = wants_bed stage.inputs.first_ended stage.inputs.second_ended (sym (ap (λ (w : Option SequenceLine). mask_want_of (is_some w) stage.inputs.first_ended stage.inputs.second_ended) none) ∙ sym stands.stands.want_is ∙ wants)
 
-  module _ (r : Feature) (range : r.stop ≤ max_number) (next : IsNext stage.ahead r) where
+  module _ (r : Feature) (range : r.stop ≤ max_number) (next : MayComeNext stage.ahead r) where
     abbrev names : List (List ℕ)
     names = (reached stage).names
 
@@ -312,7 +312,7 @@ module _ (how : MaskHow) (full : Bool) where
 
   -- a record that was taken or is ahead comes after those seen
   module _ (stage : MaskStage) (r : Feature) (going : stage.inputs.second_ended ≡ false) where
-    seen_by : (o : Option Feature) → stage.ahead ≡ o → IsNext o r → (records more : List Feature) → records ≡ (stage.inputs.taken ++ r ∷ []) ++ more → MayFollow stage records
+    seen_by : (o : Option Feature) → stage.ahead ≡ o → MayComeNext o r → (records more : List Feature) → records ≡ (stage.inputs.taken ++ r ∷ []) ++ more → MayFollow stage records
     seen_by None is next records more e = record {
       more = r ∷ more;
       begins = e ∙ append_assoc stage.inputs.taken (r ∷ []) more ∙ ap (λ l. l ++ r ∷ more) (sym (append-nil stage.inputs.taken))
@@ -329,10 +329,10 @@ module _ (how : MaskHow) (full : Bool) where
     }
 
     -- it was taken
-    pub record_goes : IsNext stage.ahead r → GoesOn how full stage [] (r ∷ []) (with_record stage r) []
+    pub record_goes : MayComeNext stage.ahead r → GoesOn how full stage [] (r ∷ []) (with_record stage r) []
     record_goes next = grind (arith, append-nil, seen_by)
 
     -- it decided the line that waits
-    pub decided_goes : IsNext stage.ahead r → (a : SequenceLine) → stage.inputs.waiting ≡ Some a → decided a (stage.inputs.taken ++ r ∷ []) ≡ true
+    pub decided_goes : MayComeNext stage.ahead r → (a : SequenceLine) → stage.inputs.waiting ≡ Some a → line_decided a (stage.inputs.taken ++ r ∷ []) ≡ true
         → GoesOn how full stage [] [] (with_decided stage r) (masked_line how stage.inputs.taken a)
-    decided_goes next a waits decides = grind (arith, append-nil, decided_stays, append_assoc, masked_before, seen_by)
+    decided_goes next a waits decides_line = grind (arith, append-nil, decided_stays, append_assoc, masked_before, seen_by)

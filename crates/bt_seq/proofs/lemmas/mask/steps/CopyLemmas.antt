@@ -1,6 +1,6 @@
 -- Lemmas on lines of bases that are copied through.
 use Rattle.bt_lines.proofs.Std.{common_steps, ◌≡◌, ℕ, ◌+◌, ◌≤◌, min, Bool, true, false, ◌||◌, nat_eq, nat_le, if◌then◌else◌, List, [], ◌∷◌, ◌++◌, length, drop, length-append, append_assoc, append-nil, None, Result, is_some, slice_range, refl, sym, ap, ◌∙◌, subst, arith, IsErr, IsOk, flat_map, cond, Option, Some, bytes_eq, list_any, flat_map-append, list_any-append, or_parts, or_from, is_none, option_to_list}
-use Rattle.bt_lines.specs.calls.Reader.{PassesLine, line_of, rest_in}
+use Rattle.bt_lines.specs.calls.Reader.{PassesLine, shown_text_line, rest_in}
 use Rattle.bt_lines.specs.calls.Line.{Cut, Shown}
 use Rattle.bt_lines.specs.model.Lines.{TextLine, spelled}
 use Rattle.bt_lines.specs.calls.Output.{Output, Puts}
@@ -8,9 +8,9 @@ use Rattle.bt_lines.specs.declared.reader.buffered_lines.BufferedLines.{Buffered
 use Rattle.bt_lines.specs.declared.fault.Fault.{Fault}
 use Rattle.bt_seq.specs.inside.Masking.{CopiesLine, CopiesLines, CopiesThrough, StayEach, bounds_of, passed_all}
 use Rattle.bt_bed.specs.calls.Stage.{given}
-use Rattle.bt_seq.specs.calls.MaskStage.{PassesLines, MaskStage, want_of}
+use Rattle.bt_seq.specs.calls.MaskStage.{PassesTextLines, MaskStage, mask_want_of}
 use Rattle.bt_seq.specs.calls.MaskState.{Masking, passed, stays_as_given, left_after}
-use Rattle.bt_seq.specs.model.Masked.{is_header, decided, is_unnamed, block_decides, items_if_last, names_behind, own_records, SequenceLine, bases_up_to}
+use Rattle.bt_seq.specs.model.Masked.{is_sequence_header, line_decided, is_unnamed, block_decides, items_if_last, names_behind, own_records, SequenceLine, bases_up_to}
 use Rattle.bt_seq.specs.inside.Window.{Bounds, gone_on, limit}
 use Rattle.bt_seq.specs.declared.mask.copy_through.CopyThrough.{CopyThrough}
 use Rattle.bt_seq.specs.declared.mask.MaskWant.TheVariants.{Line, Nothing, Bed}
@@ -23,10 +23,10 @@ use Rattle.bt_seq.specs.calls.MaskSteps.{MaskMovesTo, MaskStandsAt, IsAtStage}
 use Rattle.bt_seq.specs.declared.mask.mask_how.MaskHow.{MaskHow}
 
 pub copied_line : {to : ℕ} {old new : CopyThrough} {line : Shown} (cut : Cut (rest_in old.lines) line) → old.lines.is_open ≡ false
-    → PassesLine old.lines (line_of old.lines line) new.lines
+    → PassesLine old.lines (shown_text_line old.lines line) new.lines
     → rest_in new.lines ≡ drop line.size (rest_in old.lines) → new.lines.at ≡ old.lines.at + line.size
-    → is_header line.text ≡ false → new.before ≡ old.bases → new.bases ≡ min (old.bases + length line.text) limit → new.bases ≤ to
-    → CopiesLine to old (line_of old.lines line) new
+    → is_sequence_header line.text ≡ false → new.before ≡ old.bases → new.bases ≡ min (old.bases + length line.text) limit → new.bases ≤ to
+    → CopiesLine to old (shown_text_line old.lines line) new
 copied_line cut closed passes rest at no_header before bases within = grind (arith, common_steps)
 
 -- one more line was consumed after others
@@ -35,18 +35,18 @@ pub copied_behind : (to : ℕ) (old mid new : CopyThrough) (lines : List TextLin
 copied_behind to old mid new [] line p q = (new, subst (λ (m : CopyThrough). CopiesLine to m line new) p q, refl)
 copied_behind to old mid new (l ∷ ls) line p q = (p.0, p.1, copied_behind to p.0 mid new ls line p.2 q)
 
-pub none_pass : (lines : BufferedLines) → PassesLines lines [] lines
+pub none_pass : (lines : BufferedLines) → PassesTextLines lines [] lines
 none_pass lines = record { left_is = refl; all_is = refl; given = omega arith; open_is = refl }
 
-pub pass_more : {old mid new : BufferedLines} {lines more : List TextLine} → PassesLines old lines mid → PassesLines mid more new → PassesLines old (lines ++ more) new
+pub pass_more : {old mid new : BufferedLines} {lines more : List TextLine} → PassesTextLines old lines mid → PassesTextLines mid more new → PassesTextLines old (lines ++ more) new
 pass_more first rest = grind (arith, append_assoc, length-append)
 
-pub pass_one : {old new : BufferedLines} {line : TextLine} → PassesLine old line new → PassesLines old (line ∷ []) new
+pub pass_one : {old new : BufferedLines} {line : TextLine} → PassesLine old line new → PassesTextLines old (line ∷ []) new
 pass_one p = record { left_is = p.left_is; all_is = p.all_is; given = p.given; open_is = p.open_is }
 
 -- what was consumed, as lines and as bytes
-pub copies_pass : (to : ℕ) (lines : List TextLine) (old new : CopyThrough) → CopiesLines to old lines new → PassesLines old.lines lines new.lines
-copies_pass to [] old new p = subst (λ (t : CopyThrough). PassesLines old.lines [] t.lines) (sym p) (none_pass old.lines)
+pub copies_pass : (to : ℕ) (lines : List TextLine) (old new : CopyThrough) → CopiesLines to old lines new → PassesTextLines old.lines lines new.lines
+copies_pass to [] old new p = subst (λ (t : CopyThrough). PassesTextLines old.lines [] t.lines) (sym p) (none_pass old.lines)
 copies_pass to (line ∷ lines) old new p = pass_more (pass_one p.1.passes) (copies_pass to lines p.0 new p.2)
 
 pub copies_bytes : (to : ℕ) (lines : List TextLine) (old new : CopyThrough) → CopiesLines to old lines new
@@ -129,7 +129,7 @@ own_more names rs r =
     ∙ ap (λ left. own_records names rs ++ items_if_last left (r ∷ [])) (leave_all (Some names) (rs ++ r ∷ []))
 
 -- whether one more record decides a line
-pub decided_more : (line : SequenceLine) (rs : List Feature) (r : Feature) → decided line (rs ++ r ∷ []) ≡ (decided line rs || block_decides (bases_up_to line) (left_after line.names (rs ++ r ∷ [])) (r ∷ []))
+pub decided_more : (line : SequenceLine) (rs : List Feature) (r : Feature) → line_decided line (rs ++ r ∷ []) ≡ (line_decided line rs || block_decides (bases_up_to line) (left_after line.names (rs ++ r ∷ [])) (r ∷ []))
 decided_more line rs r = grind (arith, (decided_by_tags line (rs ++ r ∷ [])), (tags_more (Some line.names) None rs r), list_any-append, (decided_by_tags line rs), (leave_all (Some line.names) (rs ++ r ∷ [])))
 
 -- one more name
@@ -180,7 +180,7 @@ module _ (n : List ℕ) where
   named_more [] = refl
   named_more (m ∷ ms) = refl
 
-  pub undecided_header : (line : SequenceLine) (names left : List (List ℕ)) (rs : List Feature) → line.names ≡ names ++ n ∷ [] → left_after names rs ≡ Some left → decided line rs ≡ false
+  pub undecided_header : (line : SequenceLine) (names left : List (List ℕ)) (rs : List Feature) → line.names ≡ names ++ n ∷ [] → left_after names rs ≡ Some left → line_decided line rs ≡ false
   undecided_header line names left rs is e =
       decided_by_tags line rs
       ∙ ap (λ l. is_unnamed l || list_any (tag_decides (bases_up_to line)) (tags_of l rs)) is
@@ -194,7 +194,7 @@ module _ (low high : ℕ) (up : low ≤ high) where
   none_yet (t ∷ ts) e =
       or_from (tag_decides high t) (list_any (tag_decides high) ts) (grind arith) (none_yet ts (or_parts (tag_decides low t) (list_any (tag_decides low) ts) e).1)
 
-  pub undecided_next : (line next : SequenceLine) (rs : List Feature) → next.names ≡ line.names → bases_up_to line ≡ low → bases_up_to next ≡ high → decided line rs ≡ false → decided next rs ≡ false
+  pub undecided_next : (line next : SequenceLine) (rs : List Feature) → next.names ≡ line.names → bases_up_to line ≡ low → bases_up_to next ≡ high → line_decided line rs ≡ false → line_decided next rs ≡ false
   undecided_next line next rs same is next_is e = grind (arith, decided_by_tags, none_yet)
 
 -- Lemmas on the stage of a masking engine, by the line given last.
@@ -220,10 +220,10 @@ pub last_waits : (stage : MaskStage) (line : SequenceLine) → stage.inputs.wait
 last_waits stage line e = ap (λ (w : Option SequenceLine). last_or None (stage.inputs.written ++ option_to_list w)) e ∙ last_more stage.inputs.written line
 
 -- what is wanted shows what waits
-pub wants_line : (w : Option SequenceLine) (lines_ended bed_ended : Bool) → want_of (is_some w) lines_ended bed_ended ≡ Line → (w ≡ None) × (lines_ended ≡ false)
+pub wants_line : (w : Option SequenceLine) (lines_ended bed_ended : Bool) → mask_want_of (is_some w) lines_ended bed_ended ≡ Line → (w ≡ None) × (lines_ended ≡ false)
 wants_line w lines_ended bed_ended e = grind arith
 
-pub wants_bed : (lines_ended bed_ended : Bool) → want_of false lines_ended bed_ended ≡ Bed → (lines_ended ≡ true) × (bed_ended ≡ false)
+pub wants_bed : (lines_ended bed_ended : Bool) → mask_want_of false lines_ended bed_ended ≡ Bed → (lines_ended ≡ true) × (bed_ended ≡ false)
 wants_bed lines_ended bed_ended e = grind arith
 
 pub last_name_none : (names : List (List ℕ)) → is_none (last_or None names) ≡ is_unnamed names

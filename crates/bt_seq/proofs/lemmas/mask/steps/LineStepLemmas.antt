@@ -5,12 +5,12 @@ use Rattle.bt_lines.specs.model.Lines.{max_number, end_bytes, TextLine}
 use Rattle.bt_seq.proofs.lemmas.definitions.MaskPrefixLemmas.{held_alone, chrom_of, decided_by_tags, masked_before}
 use Rattle.bt_seq.proofs.lemmas.Sam.{none_masked, next_left, own_in, own_tagged, tag_decides, tags, tags_of}
 use Rattle.bt_bed.specs.calls.Stage.{given, with_first}
-use Rattle.bt_seq.specs.calls.MaskStage.{extent_of, MaskStage, held_by, is_written_ahead, is_written_at_once, reached, reached_by, want_of, with_line, held_for}
-use Rattle.bt_seq.specs.calls.MaskState.{Masking, line_bytes, TakesLine, Waiting, bytes_at_once, is_stray, may_grow, moved_to, writes_at_once, Matched, named, left_after}
+use Rattle.bt_seq.specs.calls.MaskStage.{extent_of, MaskStage, held_by, is_written_ahead, is_written_at_once, reached, reached_by, mask_want_of, with_line, held_for_line}
+use Rattle.bt_seq.specs.calls.MaskState.{Masking, line_bytes, TakesSequenceLine, Waiting, bytes_at_once, is_stray, may_grow, moved_to, writes_at_once, Matched, named, left_after}
 use Rattle.bt_seq.specs.calls.MaskSteps.{kept_line, IsOpen, MaskMovesTo, FailsWithLine, GivesNextLine, RefusesLine, TakesNextLine, bytes_with, may_need_memory}
-use Rattle.bt_seq.specs.model.Masked.{masked_from, masked_line, masked_text, block_decides, items_if_last, own_records, SequenceLine, bases_up_to, is_header, decided, is_unnamed, bases_in, header_behind, line_behind, line_says, may_stand, name_in}
+use Rattle.bt_seq.specs.model.Masked.{masked_from, masked_line, masked_text, block_decides, items_if_last, own_records, SequenceLine, bases_up_to, is_sequence_header, line_decided, is_unnamed, bases_in, header_behind, line_behind, line_says, may_stand, name_in}
 use Rattle.bt_seq.specs.inside.Masking.{AreInRange, Counts, KnowsNext, decided_up_to}
-use Rattle.bt_seq.specs.inside.Window.{has_position, masked_in, limit, Bounds, gone_on, no_bases}
+use Rattle.bt_seq.specs.inside.Window.{extent_has, masked_in, limit, Bounds, gone_on, no_bases}
 use Rattle.bt_seq.specs.declared.mask.mask_how.MaskHow.{MaskHow}
 use Rattle.bt_seq.specs.declared.mask.extent.Extent.{Extent}
 use Rattle.std.specs.List.{last_or}
@@ -79,11 +79,11 @@ held_short : (p : Feature → Bool) (rs : List Feature) → AreInRange rs → Ar
 held_short p [] h = tt
 held_short p (r ∷ rs) h = short_if (p r) r (filter p rs) h.0 (held_short p rs h.1)
 
-no_extent : (position : ℕ) (extents : List Extent) → limit ≤ position → AreShort extents → list_any (has_position position) extents ≡ false
+no_extent : (position : ℕ) (extents : List Extent) → limit ≤ position → AreShort extents → list_any (extent_has position) extents ≡ false
 no_extent position [] far h = refl
 no_extent position (s ∷ ss) far h =
-    let none : has_position position s ≡ false = grind (arith, nat_tests) in
-    ap (λ b. b || list_any (has_position position) ss) none ∙ no_extent position ss far h.1
+    let none : extent_has position s ≡ false = grind (arith, nat_tests) in
+    ap (λ b. b || list_any (extent_has position) ss) none ∙ no_extent position ss far h.1
 
 -- after all numbers nothing is masked
 unmasked : (how : MaskHow) (extents : List Extent) (position : ℕ) (text : List ℕ) → limit ≤ position → AreShort extents → masked_in how extents position text ≡ text
@@ -110,7 +110,7 @@ module _ (how : MaskHow) (line : SequenceLine) (rs : List Feature) (range : AreI
   own_in_range : AreInRange (own_records line.names rs)
   own_in_range = subst AreInRange (sym (own_tagged line.names rs)) (own_range (Some line.names) None rs range)
 
-  text_by : (h : Bool) → is_header line.text ≡ h → (h ≡ true → line.before ≡ 0) → masked_in how (map extent_of (held_for line rs)) (min line.before limit) line.text ≡ masked_text how rs line
+  text_by : (h : Bool) → is_sequence_header line.text ≡ h → (h ≡ true → line.before ≡ 0) → masked_in how (map extent_of (held_for_line line rs)) (min line.before limit) line.text ≡ masked_text how rs line
   text_by true e header =
       let none : bases_up_to line ≡ 0 = ap (λ b. line.before + cond b 0 (length line.text)) e ∙ ap (λ n. n + 0) (header refl) in
       ap (λ (l : List Feature). masked_in how (map extent_of l) (min line.before limit) line.text) (none_before (bases_up_to line) (λ (r : Feature). nat_lt line.before r.stop) (own_records line.names rs) none)
@@ -119,9 +119,9 @@ module _ (how : MaskHow) (line : SequenceLine) (rs : List Feature) (range : AreI
   text_by false e header = grind (arith, counted_by, held_short, own_in_range, held_alone)
 
   -- so what is written of it are its bytes
-  pub line_masked : (is_header line.text ≡ true → line.before ≡ 0) → (m : Masking) → m.how ≡ how → m.window.held ≡ map extent_of (held_for line rs) → m.window.before ≡ min line.before limit
+  pub line_masked : (is_sequence_header line.text ≡ true → line.before ≡ 0) → (m : Masking) → m.how ≡ how → m.window.held ≡ map extent_of (held_for_line line rs) → m.window.before ≡ min line.before limit
       → line_bytes m (kept_line line) ≡ masked_line how rs line
-  line_masked header m same_how held before = ap (λ t. t ++ end_bytes line.ending) (rw (same_how, held, before) (text_by (is_header line.text) refl header))
+  line_masked header m same_how held before = ap (λ t. t ++ end_bytes line.ending) (rw (same_how, held, before) (text_by (is_sequence_header line.text) refl header))
 
 -- Lemmas on a masking engine that is given a line.
 
@@ -133,15 +133,15 @@ pub some_list : (o : Option (List (List ℕ))) → is_some o ≡ true → (l : L
 some_list o e = grind arith
 
 -- what the next line of a sequence goes on to hold
-module _ (taken : List Feature) (range : AreInRange taken) (line : TextLine) (plain : is_header line.text ≡ false) where
+module _ (taken : List Feature) (range : AreInRange taken) (line : TextLine) (plain : is_sequence_header line.text ≡ false) where
   abbrev next : Option SequenceLine → SequenceLine
   next last = line_behind (reached_by last) line
 
-  undecided_tags : (l : SequenceLine) → decided l taken ≡ false → list_any (tag_decides (bases_up_to l)) (tags_of l.names taken) ≡ false
+  undecided_tags : (l : SequenceLine) → line_decided l taken ≡ false → list_any (tag_decides (bases_up_to l)) (tags_of l.names taken) ≡ false
   undecided_tags l e = (or_parts (is_unnamed l.names) (list_any (tag_decides (bases_up_to l)) (tags_of l.names taken)) (sym (decided_by_tags l taken) ∙ e)).1
 
-  held_next : (l : SequenceLine) (w : Bounds) → w.bases ≡ min (bases_up_to l) limit → decided l taken ≡ false → w.held ≡ map extent_of (held_for l taken)
-      → filter (λ (s : Extent). nat_lt w.bases s.stop) w.held ≡ map extent_of (held_for (next (Some l)) taken)
+  held_next : (l : SequenceLine) (w : Bounds) → w.bases ≡ min (bases_up_to l) limit → line_decided l taken ≡ false → w.held ≡ map extent_of (held_for_line l taken)
+      → filter (λ (s : Extent). nat_lt w.bases s.stop) w.held ≡ map extent_of (held_for_line (next (Some l)) taken)
   held_next l w bases open_at held =
       let low : AllByRecursion (IsLow (bases_up_to l)) (own_records l.names taken) =
       subst (λ (rs : List Feature). AllByRecursion (IsLow (bases_up_to l)) rs) (sym (own_tagged l.names taken)) (own_low (bases_up_to l) (Some l.names) None taken (undecided_tags l open_at) range) in
@@ -150,7 +150,7 @@ module _ (taken : List Feature) (range : AreInRange taken) (line : TextLine) (pl
       ∙ held_on l.before (bases_up_to l) (bases_up_to (next (Some l))) (omega arith) (omega arith) (own_records l.names taken) low
 
   pub held_further : (last : Option SequenceLine) (w : Bounds) → Counts last w → IsOpen last taken → w.held ≡ map extent_of (held_by last taken)
-      → filter (λ (s : Extent). nat_lt w.bases s.stop) w.held ≡ map extent_of (held_for (next last) taken)
+      → filter (λ (s : Extent). nat_lt w.bases s.stop) w.held ≡ map extent_of (held_for_line (next last) taken)
   held_further last w counts open_at held = grind (arith, held_next)
 
   pub open_further : (last : Option SequenceLine) → IsOpen last taken → IsOpen (Some (next last)) taken
@@ -170,7 +170,7 @@ ahead_left names taken r m known = grind arith
 
 -- a line of a sequence that is open is undecided
 pub open_undecided : (item : SequenceLine) (taken : List Feature) → is_unnamed item.names ≡ false → IsOpen (Some item) taken
-    → decided item taken ≡ false
+    → line_decided item taken ≡ false
 open_undecided item taken is_named open_at = grind arith
 
 not_strayed : (names : List (List ℕ)) (text : List ℕ) → may_stand names text ≡ not (is_unnamed names && nat_lt 0 (length text))
@@ -196,10 +196,10 @@ module _ (how : MaskHow) (full : Bool) (stage : MaskStage) (old : Masking) (s : 
     bed_ended_is : moved.bed_ended ≡ stage.inputs.second_ended
     counts : Counts (Some item) moved.window
     name_is : moved.matched.name ≡ last_or None item.names
-    holds : moved.window.held ≡ map extent_of (held_for item stage.inputs.taken)
+    holds : moved.window.held ≡ map extent_of (held_for_line item stage.inputs.taken)
     is_open : IsOpen (Some item) stage.inputs.taken
     owned : is_some (left_after item.names stage.inputs.taken) ≡ true
-    header : is_header item.text ≡ true → item.before ≡ 0
+    header : is_sequence_header item.text ≡ true → item.before ≡ 0
     waits_known : stage.inputs.second_ended ≡ false → is_unnamed item.names ≡ false → KnowsNext true item.names stage.inputs.taken stage.ahead moved.matched
     at_once : writes_at_once moved item.text ≡ is_written_at_once stage item
     written_known : stage.inputs.second_ended ≡ false → is_written_at_once stage item ≡ true → KnowsNext false item.names stage.inputs.taken stage.ahead moved.matched
@@ -215,7 +215,7 @@ module _ (how : MaskHow) (full : Bool) (stage : MaskStage) (old : Masking) (s : 
   -- whether a line to which it has moved is written at once
   once_by : (item : SequenceLine) (moved : Masking) → moved.bed_ended ≡ stage.inputs.second_ended → moved.matched.name ≡ last_or None item.names
       → (stage.inputs.second_ended ≡ false → is_unnamed item.names ≡ false
-      → (not (is_header item.text) && nat_le moved.window.bases moved.decided_to) ≡ is_written_ahead stage.ahead stage.inputs.taken item)
+      → (not (is_sequence_header item.text) && nat_le moved.window.bases moved.decided_to) ≡ is_written_ahead stage.ahead stage.inputs.taken item)
       → writes_at_once moved item.text ≡ is_written_at_once stage item
   once_by item moved ended name alike = grind (arith, last_name_none)
 
@@ -226,7 +226,7 @@ module _ (how : MaskHow) (full : Bool) (stage : MaskStage) (old : Masking) (s : 
     abbrev header_item : SequenceLine
     header_item = header_behind old.full (reached stage) line
 
-    header_by : is_header line.text ≡ true → Moved header_item header_moved
+    header_by : is_sequence_header line.text ≡ true → Moved header_item header_moved
     header_by e =
         let n = name_in old.full line.text in
         let left = some_list (left_after names stage.inputs.taken) s.stands.owned in
@@ -253,27 +253,27 @@ module _ (how : MaskHow) (full : Bool) (stage : MaskStage) (old : Masking) (s : 
     abbrev plain_item : SequenceLine
     plain_item = line_behind (reached stage) line
 
-    plain_counts : is_header line.text ≡ false → Counts (Some plain_item) plain_moved.window
+    plain_counts : is_sequence_header line.text ≡ false → Counts (Some plain_item) plain_moved.window
     plain_counts e =
         let count : bases_in line.text ≡ length line.text = ap (λ b. cond b 0 (length line.text)) e in
         let bases : old.window.bases ≡ min (reached stage).bases limit = s.stands.inside.counts.bases in
         record { before = bases; bases = omega arith }
 
     -- whether the record ahead decides it is what is known
-    plain_alike : is_header line.text ≡ false → stage.inputs.second_ended ≡ false → is_unnamed names ≡ false → (o : Option Feature) → stage.ahead ≡ o
-        → (not (is_header line.text) && nat_le plain_moved.window.bases old.decided_to) ≡ is_written_ahead o stage.inputs.taken plain_item
+    plain_alike : is_sequence_header line.text ≡ false → stage.inputs.second_ended ≡ false → is_unnamed names ≡ false → (o : Option Feature) → stage.ahead ≡ o
+        → (not (is_sequence_header line.text) && nat_le plain_moved.window.bases old.decided_to) ≡ is_written_ahead o stage.inputs.taken plain_item
     plain_alike e going is_named None ahead = grind arith
     plain_alike e going is_named (Some r) ahead =
         let left = left_after names (stage.inputs.taken ++ r ∷ []) in
         let undecided = open_undecided plain_item stage.inputs.taken is_named (open_further stage.inputs.taken s.stands.inside.in_range line e (last_or None (given stage.inputs)) open_at) in
-        let decides : nat_le plain_moved.window.bases old.decided_to ≡ decided plain_item (stage.inputs.taken ++ r ∷ []) =
+        let decides : nat_le plain_moved.window.bases old.decided_to ≡ line_decided plain_item (stage.inputs.taken ++ r ∷ []) =
         ap (λ (n : ℕ). nat_le n old.decided_to) (plain_counts e).bases
         ∙ ap (λ (n : ℕ). nat_le (min (bases_up_to plain_item) limit) n) (s.stands.inside.decided_to_is asked.0 going r ahead)
         ∙ (grind arith)
         ∙ sym (decided_more plain_item stage.inputs.taken r ∙ ap (λ b. b || block_decides (bases_up_to plain_item) left (r ∷ [])) undecided) in
-        ap (λ b. not (is_header line.text) && b) decides
+        ap (λ b. not (is_sequence_header line.text) && b) decides
 
-    plain_by : is_header line.text ≡ false → Moved plain_item plain_moved
+    plain_by : is_sequence_header line.text ≡ false → Moved plain_item plain_moved
     plain_by e =
         record {
           how_is = s.how_is;
@@ -303,7 +303,7 @@ module _ (how : MaskHow) (full : Bool) (stage : MaskStage) (old : Masking) (s : 
       says : line_says full (reached stage) line ≡ Err TextBeforeHeader
       stray : is_stray old line.text ≡ true
 
-    header_goes : is_header line.text ≡ true → Goes
+    header_goes : is_sequence_header line.text ≡ true → Goes
     header_goes e =
         let by : (f : Bool) → old.full ≡ f → (item : SequenceLine) × (header_behind f (reached stage) line ≡ item) × Moved item header_moved × (kept_line item ≡ record { text = line.text; ending = line.ending }) =
         λ f d. (header_item, sym (ap (λ f. header_behind f (reached stage) line) d), header_by e, refl) in
@@ -316,13 +316,13 @@ module _ (how : MaskHow) (full : Bool) (stage : MaskStage) (old : Masking) (s : 
           fine = ap (λ b. not b && (is_none old.matched.name && nat_lt 0 (length line.text))) e;
         }
 
-    stray_is : is_header line.text ≡ false → is_stray old line.text ≡ (is_unnamed names && nat_lt 0 (length line.text))
+    stray_is : is_sequence_header line.text ≡ false → is_stray old line.text ≡ (is_unnamed names && nat_lt 0 (length line.text))
     stray_is e = grind (arith, last_name_none)
 
-    plain_says : is_header line.text ≡ false → line_says full (reached stage) line ≡ cond (may_stand names line.text) (Ok (Some plain_item)) (Err TextBeforeHeader)
+    plain_says : is_sequence_header line.text ≡ false → line_says full (reached stage) line ≡ cond (may_stand names line.text) (Ok (Some plain_item)) (Err TextBeforeHeader)
     plain_says e = ap (λ b. cond b (Ok (Some (header_behind full (reached stage) line))) (cond (may_stand names line.text) (Ok (Some plain_item)) (Err TextBeforeHeader))) e
 
-    plain_goes : is_header line.text ≡ false → (b : Bool) → may_stand names line.text ≡ b → Goes ⊎ Strays
+    plain_goes : is_sequence_header line.text ≡ false → (b : Bool) → may_stand names line.text ≡ b → Goes ⊎ Strays
     plain_goes e true may = inl (record {
       item = plain_item;
       says = plain_says e ∙ ap (λ b. cond b (Ok (Some plain_item)) (Err TextBeforeHeader)) may;
@@ -336,7 +336,7 @@ module _ (how : MaskHow) (full : Bool) (stage : MaskStage) (old : Masking) (s : 
     })
 
     goes : Goes ⊎ Strays
-    goes = elim (cases_Bool (is_header line.text)) [
+    goes = elim (cases_Bool (is_sequence_header line.text)) [
       | inl e ↦ inl (header_goes e)
       | inr e ↦ plain_goes e (may_stand names line.text) refl
     ]
@@ -387,7 +387,7 @@ module _ (how : MaskHow) (full : Bool) (stage : MaskStage) (old : Masking) (s : 
     written_stands now =
         stands_at how full (line_at true) (record moved { waiting = None; want = Line }) (Some item) written_last m.how_is m.full_is (record {
           waiting_is = sym (ap (λ (w : Option SequenceLine). option_map kept_line w) asked.0);
-          want_is = sym (ap (λ (w : Option SequenceLine). want_of (is_some w) stage.inputs.first_ended stage.inputs.second_ended) asked.0 ∙ ap (λ b. want_of false b stage.inputs.second_ended) asked.1);
+          want_is = sym (ap (λ (w : Option SequenceLine). mask_want_of (is_some w) stage.inputs.first_ended stage.inputs.second_ended) asked.0 ∙ ap (λ b. mask_want_of false b stage.inputs.second_ended) asked.1);
           bed_ended_is = m.bed_ended_is;
           waits = λ l e. absurd (let apart : None ≡ Some l = sym asked.0 ∙ e in cc);
           holds = λ e. m.holds;
@@ -422,7 +422,7 @@ module _ (how : MaskHow) (full : Bool) (stage : MaskStage) (old : Masking) (s : 
     abbrev kept : Waiting
     kept = record { text = line.text; ending = line.ending }
 
-    takes : {A : Type 0} (done : A) → Goes line → TakesLine old line.number kept out (Ok done) new grown → TakesNextLine how full stage line out new grown
+    takes : {A : Type 0} (done : A) → Goes line → TakesSequenceLine old line.number kept out (Ok done) new grown → TakesNextLine how full stage line out new grown
     takes done g t = record {
       item = g.item;
       says = g.says;
@@ -434,7 +434,7 @@ module _ (how : MaskHow) (full : Bool) (stage : MaskStage) (old : Masking) (s : 
       settled = masked_before how g.item stage.inputs.taken;
     }
 
-    fails : (A : Type 0) (fault : Fault) → Goes line → TakesLine {A = A} old line.number kept out (Err fault) new grown → (new.want ≡ Nothing) × (RefusesLine how full stage line out (fault_value fault) grown ⊎ FailsWithLine how full stage line out (fault_value fault) grown)
+    fails : (A : Type 0) (fault : Fault) → Goes line → TakesSequenceLine {A = A} old line.number kept out (Err fault) new grown → (new.want ≡ Nothing) × (RefusesLine how full stage line out (fault_value fault) grown ⊎ FailsWithLine how full stage line out (fault_value fault) grown)
     fails A fault g t = (
       t.0,
       elim t.1 [
@@ -457,7 +457,7 @@ module _ (how : MaskHow) (full : Bool) (stage : MaskStage) (old : Masking) (s : 
       ],
     )
 
-    refuses : (A : Type 0) (fault : Fault) → Strays line → TakesLine {A = A} old line.number kept out (Err fault) new grown → (new.want ≡ Nothing) × (RefusesLine how full stage line out (fault_value fault) grown ⊎ FailsWithLine how full stage line out (fault_value fault) grown)
+    refuses : (A : Type 0) (fault : Fault) → Strays line → TakesSequenceLine {A = A} old line.number kept out (Err fault) new grown → (new.want ≡ Nothing) × (RefusesLine how full stage line out (fault_value fault) grown ⊎ FailsWithLine how full stage line out (fault_value fault) grown)
     refuses A fault g t = (
       t.0,
       elim t.1 [
@@ -466,7 +466,7 @@ module _ (how : MaskHow) (full : Bool) (stage : MaskStage) (old : Masking) (s : 
       ],
     )
 
-    pub gives_line : {A : Type 0} (answer : Result A Fault) → TakesLine old line.number kept out answer new grown → GivesNextLine how full stage line out answer new grown
+    pub gives_line : {A : Type 0} (answer : Result A Fault) → TakesSequenceLine old line.number kept out answer new grown → GivesNextLine how full stage line out answer new grown
     gives_line (Ok done) t = elim (goes line) [
       | inl goes ↦ takes done goes t
       | inr strays ↦ absurd (never (sym t.0 ∙ strays.stray))

@@ -1,5 +1,5 @@
 use Rattle.bt_lines.proofs.Std.{◌≡◌, true, Bool, Ok}
-use Rattle.bt_seq.specs.calls.MaskSteps.{GivesBoth, Stays, left_to_give}
+use Rattle.bt_seq.specs.calls.MaskSteps.{GivesBoth, DoesNothing, left_to_give}
 use Rattle.bt_seq.specs.declared.mask.MaskWant.TheVariants.{Nothing}
 use Rattle.bt_seq.proofs.mask.Mask.advance.Given as goal
 
@@ -7,7 +7,7 @@ use Rattle.bt_seq.proofs.mask.Mask.advance.Given as goal
 abbrev pub invariant-loop : goal.invariant-loop
 invariant-loop g l = record {
   gives : GivesBoth g.C.Cursor {A = Bool} l.fn.self l.fn.lines l.fn.records l.fn.out.output (Ok true) l.self l.lines l.records l.out.output;
-  idle : l.fn.self.want ≡ Nothing → Stays l.fn.self l.fn.lines l.fn.records l.fn.out.output l.self l.lines l.records l.out.output;
+  idle : l.fn.self.want ≡ Nothing → DoesNothing l.fn.self l.fn.lines l.fn.records l.fn.out.output l.self l.lines l.records l.out.output;
 }
 
 abbrev pub decreases-loop : goal.decreases-loop

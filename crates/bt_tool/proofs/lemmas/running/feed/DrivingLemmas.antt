@@ -29,7 +29,7 @@ use Rattle.bt_tool.specs.calls.Run.{IsFaultButWrite, IsReported, IsWithin, Reads
 use Rattle.bt_tool.specs.model.Report.{of_members, of_records}
 use Rattle.bt_tool.specs.calls.Inputs.{Holds, OfBoth}
 use Rattle.bt_tool.proofs.lemmas.running.members.CursorLemmas.{Came, BeginsAt, at_whole, came_whole, good_whole, handed_to, says_fault, begins_over}
-use Rattle.bt_tool.specs.inside.Feed.{StopCause, CutsLines, PutsLines, FeedsAll, FeedsUpTo, TookButBlock, IsReadFor, member_items, LineRefused, sam_reader, IsFresh, KeepsOwnFault, Passes}
+use Rattle.bt_tool.specs.inside.Feed.{FeedStopCause, CutsLines, PutsLines, FeedsAll, FeedsUpTo, TookButBlock, IsReadFor, member_items, LineRefused, sam_reader, IsFresh, KeepsOwnFault, PassesMembers}
 use Rattle.bt_tool.specs.model.Written.{Report, members_report, members_settle, report_by, Written, IsOneOf, alignment_lines, alignments_written, merge_written, pooled_written, coverage_written}
 use Rattle.bt_tool.proofs.lemmas.running.feed.FeedLemmas.{GoesOn, front_all, took_later, Fed, fails_writing, fed_all, fed_none, fed_up_to, goes_same, put_more}
 use Rattle.bt_tool.proofs.lemmas.running.feed.WritingLemmas.{is_whole, alone_writes}
@@ -44,9 +44,9 @@ use Rattle.bt_tool.proofs.lemmas.running.members.MemberLemmas.{IsStopped, came, 
 use Rattle.bt_bed.proofs.lemmas.read.good.ReadingLemmas.{Going as Steps, going_end, going_start as steps_start, going_unread, going_wrong, good_at_first}
 use Rattle.bt_bed.specs.model.Genome.{Entry}
 use Rattle.bt_runs.specs.model.Gaps.{settled_gaps}
-use Rattle.bt_runs.specs.calls.Complementing.{AreTaken as AreTakenBy}
+use Rattle.bt_runs.specs.calls.Complementing.{AreInGenomeOrder as AreTakenBy}
 use Rattle.bt_runs.specs.model.Merged.{merged_runs, places_of, settled_strand_runs, strand_runs}
-use Rattle.bt_runs.specs.calls.MergedRuns.{AreTaken, settled_runs}
+use Rattle.bt_runs.specs.calls.MergedRuns.{AreMergeable, settled_runs}
 use Rattle.bt_runs.specs.calls.Merging.{merge_begun, merge_engine}
 use Rattle.bt_runs.specs.declared.merge.Kind.{Kind as MergeKind}
 use Rattle.bt_runs.specs.declared.merge.Kind.TheVariants.{PerStrand, Unstranded}
@@ -141,7 +141,7 @@ module _ {S A State : Type 0} {written : Written A} {Taken : List A → Type 0} 
 
   module _ (fault : FaultValue) (grown : Output) where
     abbrev Cause : List (Member A) → Type 0
-    Cause past = StopCause written.settled kinds Sorted device old out past fault new grown
+    Cause past = FeedStopCause written.settled kinds Sorted device old out past fault new grown
 
     -- the report, by what the fault of the input says of it
     reported_by : (past : List (Member A)) (handed : Handed) (before : List ℕ) → Came device first last (Some fault) handed → out.put ≡ Some before
@@ -310,7 +310,7 @@ module _ {S : Type 0} (split cigar : Bool) (device : Source S) where
         pushed : (a : Alignment) → lines_of (member_items g.past ++ a ∷ []) ≡ lines_of (member_items g.past) ++ bed_lines split cigar a
         pushed a = flat_map-append (bed_lines split cigar) (member_items g.past) (a ∷ []) ∙ ap (λ l. lines_of (member_items g.past) ++ l) (append-nil (bed_lines split cigar a))
 
-        with_it : (a : Alignment) → alignment_of line.text ≡ Ok (Some a) → Passes device (sam_reader old) (g.past ++ member_on line a ∷ []) (sam_reader new)
+        with_it : (a : Alignment) → alignment_of line.text ≡ Ok (Some a) → PassesMembers device (sam_reader old) (g.past ++ member_on line a ∷ []) (sam_reader new)
         with_it a says = passes_some g.fed.passes (sam_reader new) gives kept refl refl gives.goes says refl
 
         -- the lines of its alignment couldn't be written
@@ -326,7 +326,7 @@ module _ {S : Type 0} (split cigar : Bool) (device : Source S) where
             g.fed.put tt lines (pushed a ∙ ap (λ l. lines_of (member_items g.past) ++ l) (sym is)) fails.is fails.front fails.failed fails.sink_failed fails.grows
 
         -- what is settled with these members was put
-        goes_with : (past : List (Member Alignment)) (bytes : List ℕ) (later : Output) → Passes device (sam_reader old) past (sam_reader new) → lines_of (member_items past) ≡ lines_of (member_items g.past) ++ bytes → Grown grown bytes later
+        goes_with : (past : List (Member Alignment)) (bytes : List ℕ) (later : Output) → PassesMembers device (sam_reader old) past (sam_reader new) → lines_of (member_items past) ≡ lines_of (member_items g.past) ++ bytes → Grown grown bytes later
             → Going old out new later
         goes_with past bytes later passes more writes = grind (arith, (put_more out grown later (lines_of (member_items g.past)) bytes g.fed.put writes))
 
@@ -404,15 +404,15 @@ unfolding settled_runs
 merge_begins merge = grind (arith, no_strand_settled)
 
 -- what it has settled stays, and begins the whole
-pub merge_stays : (merge : MergeKind) → SettledStays (merge_engine.settled merge) AreTaken
-merge_stays (Unstranded merge) = lines_stay (settled_runs merge.rule.gap merge.rule.strand) AreTaken (runs_stay merge.rule.gap merge.rule.strand)
-merge_stays (PerStrand merge) = lines_stay (λ records. places_of (settled_strand_runs merge.rule.gap records)) AreTaken (λ past more taken.
+pub merge_stays : (merge : MergeKind) → SettledStays (merge_engine.settled merge) AreMergeable
+merge_stays (Unstranded merge) = lines_stay (settled_runs merge.rule.gap merge.rule.strand) AreMergeable (runs_stay merge.rule.gap merge.rule.strand)
+merge_stays (PerStrand merge) = lines_stay (λ records. places_of (settled_strand_runs merge.rule.gap records)) AreMergeable (λ past more taken.
     let s = stay merge.rule.gap past more taken in
     (places_of s.0, ap places_of s.1 ∙ map-append (λ item. item.run) (settled_strand_runs merge.rule.gap past) s.0))
 
-pub merge_begins_whole : (merge : MergeKind) → SettledBegins (merge_engine.settled merge) (merge_engine.output merge) AreTaken
-merge_begins_whole (Unstranded merge) = lines_begin (settled_runs merge.rule.gap merge.rule.strand) (merged_runs merge.rule.gap merge.rule.strand) AreTaken (runs_begin merge.rule.gap merge.rule.strand)
-merge_begins_whole (PerStrand merge) = lines_begin (λ records. places_of (settled_strand_runs merge.rule.gap records)) (λ records. places_of (strand_runs merge.rule.gap records)) AreTaken (λ past more taken.
+pub merge_begins_whole : (merge : MergeKind) → SettledBegins (merge_engine.settled merge) (merge_engine.output merge) AreMergeable
+merge_begins_whole (Unstranded merge) = lines_begin (settled_runs merge.rule.gap merge.rule.strand) (merged_runs merge.rule.gap merge.rule.strand) AreMergeable (runs_begin merge.rule.gap merge.rule.strand)
+merge_begins_whole (PerStrand merge) = lines_begin (λ records. places_of (settled_strand_runs merge.rule.gap records)) (λ records. places_of (strand_runs merge.rule.gap records)) AreMergeable (λ past more taken.
     let s = begin merge.rule.gap past more taken in
     (places_of s.0, ap places_of s.1 ∙ map-append (λ item. item.run) (settled_strand_runs merge.rule.gap past) s.0))
 

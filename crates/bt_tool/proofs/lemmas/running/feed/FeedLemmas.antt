@@ -27,7 +27,7 @@ use Rattle.bt_bed.specs.calls.CursorLaws.{batch_gives_more, batch_gives_none}
 use Rattle.bt_bed.specs.calls.CursorOf.{batch_cursor}
 use Rattle.bt_bed.specs.declared.read.batch.Batch.{Batch}
 use Rattle.bt_runs.specs.calls.Engine.{EngineDef, FailsAtGiven, FeedsBatch, NotTaken, TakesEach}
-use Rattle.bt_tool.specs.inside.Feed.{HasPut, AreInOrder, IsFresh, Took, TookButBlock, FeedsAll, FeedsUpTo, ConsumesGiven, HasTaken, IsReadFor, Passes, member_items}
+use Rattle.bt_tool.specs.inside.Feed.{HasPut, AreInOrder, IsFresh, Took, TookButBlock, FeedsAll, FeedsUpTo, ConsumesGiven, HasTaken, IsReadFor, PassesMembers, member_items}
 use Rattle.bt_tool.proofs.lemmas.running.members.MemberLemmas.{IsFilled, IsOver, IsStopped, bytes_more, items_take, passes_all, passes_end, passes_fill, passes_start, passes_stop, passes_take, read_alone, read_at_stop, read_before, read_here}
 use Rattle.bt_tool.proofs.lemmas.running.feed.WritingLemmas.{begins_with}
 use Rattle.bt_tool.proofs.lemmas.running.members.PassedLemmas.{line_going, said_in_order}
@@ -85,7 +85,7 @@ put_more out old new bytes more put grown = grind (arith, text_grows, (works_bot
 
 -- members of a reader were taken, and what they settle was written
 pub record Fed {S A State : Type 0} (settled : List A → List ℕ) (device : Source S) (old : MemberReader S A State) (out : Output) (past : List (Member A)) (now : MemberReader S A State) (grown : Output) : Type 0 where
-  pub passes : Passes device old past now
+  pub passes : PassesMembers device old past now
   pub put : HasPut out (settled (member_items past)) grown
 
 -- none yet
@@ -123,7 +123,7 @@ module _ {S A State : Type 0} {settled : List A → List ℕ} {device : Source S
 
 -- members were taken, what those before the last one settle was written, and the last one failed
 module _ {S A State : Type 0} {settled : List A → List ℕ} {Kinds : Kind → Type 0} {Sorted : List A → Type 0} {device : Source S} {old : MemberReader S A State} {out : Output}
-    {before given : List (Member A)} (a : A) (items : member_items given ≡ member_items before ++ a ∷ []) {new : MemberReader S A State} (passes : Passes device old given new) (read : IsReadFor device old before given new)
+    {before given : List (Member A)} (a : A) (items : member_items given ≡ member_items before ++ a ∷ []) {new : MemberReader S A State} (passes : PassesMembers device old given new) (read : IsReadFor device old before given new)
     {through : Output} (put : HasPut out (settled (member_items before)) through) (sorted : Sorted (member_items before ++ a ∷ [])) {fault : FaultValue} {later : Output} (lines : List ℕ)
     (more : settled (member_items before ++ a ∷ []) ≡ settled (member_items before) ++ lines) where
   -- what is settled with it couldn't be written
@@ -240,7 +240,7 @@ module _ {S O E : Type 0} {ghosts : Ghosts O} {definition : EngineDef E} {first 
     abbrev StopsUpTo : FaultValue → Records S O ghosts → Output → Type 0
     StopsUpTo fault new later = FeedsUpTo (definition.settled first) (IsBedKind (order_in old)) (AreInOrder (order_in old)) device (view_of old) out fault (view_of new) later
 
-    in_order : (past : List (Member Feature)) (new : MemberReader S Feature (Option Locus)) → Passes device (view_of old) past new → AreInOrder (order_in old) (member_items past)
+    in_order : (past : List (Member Feature)) (new : MemberReader S Feature (Option Locus)) → PassesMembers device (view_of old) past new → AreInOrder (order_in old) (member_items past)
     in_order past new passes = grind (arith, said_in_order)
 
     -- a record is buffered
@@ -295,7 +295,7 @@ module _ {S O E : Type 0} {ghosts : Ghosts O} {definition : EngineDef E} {first 
       given_items : member_items given ≡ member_items before ++ f.r ∷ []
       given_items = items_take g.past from (records ++ f.r ∷ []) ∙ sym (append_assoc (member_items g.past) records (f.r ∷ [])) ∙ ap (λ (l : List Feature). l ++ f.r ∷ []) (sym before_items)
 
-      passes : Passes device (view_of old) given (view_of new)
+      passes : PassesMembers device (view_of old) given (view_of new)
       passes = passes_take device (view_of old) g.past (view_of now) g.fed.passes (records ++ f.r ∷ []) (view_of new) has
 
       sorted_given : AreInOrder (order_in old) (member_items before ++ f.r ∷ [])

@@ -24,9 +24,9 @@ use Rattle.bt_bed.specs.declared.read.batch.Batch.{Batch}
 use Rattle.bt_seq.proofs.lemmas.mask.steps.BedStepLemmas.{goes_more, line_goes}
 use Rattle.bt_seq.proofs.lemmas.mask.steps.CopyLemmas.{wants_line}
 use Rattle.bt_bed.specs.calls.Stage.{Stage, given, with_first}
-use Rattle.bt_seq.specs.calls.MaskStage.{GoesOn, IsNext, MaskStage, is_written_at_once, want_at, with_line}
+use Rattle.bt_seq.specs.calls.MaskStage.{GoesOn, MayComeNext, MaskStage, is_written_at_once, want_at, with_line}
 use Rattle.bt_seq.specs.calls.MaskState.{Masking}
-use Rattle.bt_seq.specs.calls.MaskSteps.{BothCome, ComesAfter, ComesNext, FailsAfter, FailsAtLines, FailsAtRecord, HasCome, StopsAt, MaskStandsAt, FailsWithLine, RefusesLine, bytes_with}
+use Rattle.bt_seq.specs.calls.MaskSteps.{BothCome, ComesAfter, GivesAhead, FailsAfter, FailsAtLines, FailsAtRecord, HasCome, StopsAt, MaskStandsAt, FailsWithLine, RefusesLine, bytes_with}
 use Rattle.bt_seq.specs.model.Masked.{Reached, SequenceLine}
 use Rattle.bt_seq.specs.declared.mask.MaskWant.{MaskWant}
 use Rattle.bt_seq.specs.declared.mask.MaskWant.TheVariants.{Line as WantLine, Bed as WantBed, Nothing}
@@ -43,7 +43,7 @@ use Rattle.bt_tool.proofs.lemmas.running.pair.PairTurns.{none_new}
 
 module _ {S State : Type 0} (second second_now : MemberReader S Feature State) (first last : Batch) (lent : left first ≡ second.buffered) where
   -- the next record that a batch gives is the one ahead
-  next_is : (ahead : Option Feature) → ((r : Feature) → ahead ≡ Some r → item_ahead second ≡ Some r) → (r : Feature) (later : Batch) → Passes first (r ∷ []) later → IsNext ahead r
+  next_is : (ahead : Option Feature) → ((r : Feature) → ahead ≡ Some r → item_ahead second ≡ Some r) → (r : Feature) (later : Batch) → Passes first (r ∷ []) later → MayComeNext ahead r
   next_is ahead kept r later passes = grind arith
 
   -- and it is the next one of those that are left
@@ -77,7 +77,7 @@ module _ {A B : Type 0} {source_a : Source A} {source_b : Source B} {start : Mas
   EndsAt fault grown = MaskEnds source_a source_b start before fault new second_now grown
 
   -- the record ahead is the next one that is given
-  comes_next : ComesNext batch_cursor s.stage.ahead first_beds
+  comes_next : GivesAhead batch_cursor s.stage.ahead first_beds
   comes_next r later passes = next_is second second_now first_beds last_beds lent s.stage.ahead s.kept_ahead r later passes
 
   kept_then : (ahead : Option Feature) → ComesAfter batch_cursor s.stage.ahead first_beds taken ahead → (r : Feature) → ahead ≡ Some r → item_ahead second_now ≡ Some r
@@ -221,7 +221,7 @@ module _ {A B : Type 0} {source_a : Source A} {source_b : Source B} {start : Mas
   as_run answer masked now both = grind arith
 
   -- what the result says
-  pub gives_both : {T : Type 0} (answer : Result T Fault) (masked : Masking) (now : Output) → (ComesNext batch_cursor s.stage.ahead first_beds → BothCome batch_cursor mask.how mask.full s.stage texts taken out first_beds answer masked last_beds now)
+  pub gives_both : {T : Type 0} (answer : Result T Fault) (masked : Masking) (now : Output) → (GivesAhead batch_cursor s.stage.ahead first_beds → BothCome batch_cursor mask.how mask.full s.stage texts taken out first_beds answer masked last_beds now)
       → OnOk answer (StopsAt batch_cursor masked.want last_lines last_beds) → AdvancesMask source_a source_b start before lines second mask answer new second_now masked now
   gives_both (Ok done) masked now come stops = let both = as_run (Ok done) masked now (come comes_next) in gave_both masked now both.0 stops both.2 done
   gives_both {T} (Err fault) masked now come stops = let both = as_run {T = T} (Err fault) masked now (come comes_next) in failed_both (fault_value fault) now both.1

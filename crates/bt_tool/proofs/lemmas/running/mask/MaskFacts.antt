@@ -4,12 +4,12 @@ use Rattle.bt_lines.specs.model.Lines.{TextLine, bytes_in}
 use Rattle.bt_bed.specs.model.Feature.{Feature}
 use Rattle.bt_bed.specs.model.BedLine.{is_record_kind, record_of}
 use Rattle.bt_bed.specs.model.Good.{Member, line_says, said_after}
-use Rattle.bt_seq.specs.model.Masked.{decided, SequenceLine, masked_line}
+use Rattle.bt_seq.specs.model.Masked.{line_decided, SequenceLine, masked_line}
 use Rattle.bt_seq.specs.declared.mask.mask_how.MaskHow.{MaskHow}
 use Rattle.bt_seq.proofs.lemmas.definitions.MaskPrefixLemmas.{decided_stays}
-use Rattle.bt_tool.specs.model.Written.{bytes_up_to, last_line, last_needed, is_mask_kind}
+use Rattle.bt_tool.specs.model.Written.{bytes_up_to, last_line_needed, last_needed, is_mask_kind}
 use Rattle.bt_tool.specs.inside.Feed.{member_items}
-use Rattle.bt_tool.specs.inside.MaskLoop.{leaves_some, mask_join}
+use Rattle.bt_tool.specs.inside.MaskLoop.{leaves_some_line, mask_join}
 use Rattle.bt_tool.proofs.lemmas.running.pair.PairMet.{AreLimits}
 use Rattle.bt_tool.proofs.lemmas.running.pair.PairNear.{AreNeeded, fault_least, least_by, not_all}
 use Rattle.bt_lines.specs.declared.fault.Kind.{Kind}
@@ -22,45 +22,45 @@ use Rattle.bt_tool.proofs.lemmas.running.pair.PairTurns.{all_or}
 use Rattle.bt_tool.specs.inside.Pair.{MayCome, SettlesPair, item_ahead}
 
 -- records that leave one of some lines undecided still do if there are fewer
-fewer_leave : (lines : List SequenceLine) (records more : List Feature) → leaves_some lines (records ++ more) ≡ true → leaves_some lines records ≡ true
+fewer_leave : (lines : List SequenceLine) (records more : List Feature) → leaves_some_line lines (records ++ more) ≡ true → leaves_some_line lines records ≡ true
 fewer_leave [] records more e = e
 fewer_leave (line ∷ lines) records more e = grind (arith, decided_stays, fewer_leave lines records more)
 
 -- none of these is the last one needed
-needed_from : (lines : List SequenceLine) (before : List Feature) (past rest : List (Member Feature)) → (past ≡ []) ⊎ IsTrue (leaves_some lines (before ++ member_items past))
+needed_from : (lines : List SequenceLine) (before : List Feature) (past rest : List (Member Feature)) → (past ≡ []) ⊎ IsTrue (leaves_some_line lines (before ++ member_items past))
     → last_needed lines before (past ++ rest) ≡ last_needed lines (before ++ member_items past) rest
 needed_from lines before [] rest h = ap (λ (l : List Feature). last_needed lines l rest) (sym (append-nil before))
 needed_from lines before (m ∷ ms) rest (inl none) = cc
 needed_from lines before (m ∷ ms) rest (inr some) =
     let parts : (before ++ m.item ∷ []) ++ member_items ms ≡ before ++ m.item ∷ member_items ms = append_assoc before (m.item ∷ []) (member_items ms) in
-    grind (arith, (needed_from lines (before ++ m.item ∷ []) ms rest (inr (ap (leaves_some lines) parts ∙ some))), not_all, fewer_leave)
+    grind (arith, (needed_from lines (before ++ m.item ∷ []) ms rest (inr (ap (leaves_some_line lines) parts ∙ some))), not_all, fewer_leave)
 
 -- who leave one of some lines undecided, leave one of more
-pub asked_of : (given extra : List SequenceLine) (records : List Feature) → IsTrue (leaves_some given records) → IsTrue (leaves_some (given ++ extra) records)
+pub asked_of : (given extra : List SequenceLine) (records : List Feature) → IsTrue (leaves_some_line given records) → IsTrue (leaves_some_line (given ++ extra) records)
 asked_of given extra records some = grind (arith, list_any-append)
 
 none_taken : (past : List (Member Feature)) → member_items past ≡ [] → past ≡ []
 none_taken [] e = refl
 none_taken (m ∷ ms) e = cc
 
-asked_by : (given extra : List SequenceLine) (past : List (Member Feature)) → (member_items past ≡ []) ⊎ IsTrue (leaves_some given (member_items past))
-    → (past ≡ []) ⊎ IsTrue (leaves_some (given ++ extra) (member_items past))
+asked_by : (given extra : List SequenceLine) (past : List (Member Feature)) → (member_items past ≡ []) ⊎ IsTrue (leaves_some_line given (member_items past))
+    → (past ≡ []) ⊎ IsTrue (leaves_some_line (given ++ extra) (member_items past))
 asked_by given extra past (inl none) = inl (none_taken past none)
 asked_by given extra past (inr some) = inr (grind (arith, list_any-append))
 
 -- the last one needed is after the first lines
 reaches_least : (on : List SequenceLine) (before : List Feature) (rest : List (Member Feature)) (fault : Option FaultValue) (lines : List TextLine) (count : ℕ) → All (λ m. count < m.line) rest
-    → IfSome fault (IsFaultBeyond count) → bytes_in (take (suc count) lines) ≤ bytes_up_to lines (last_line (last_needed on before rest) fault)
+    → IfSome fault (IsFaultBeyond count) → bytes_in (take (suc count) lines) ≤ bytes_up_to lines (last_line_needed (last_needed on before rest) fault)
 reaches_least on before [] fault lines count high beyond = fault_least fault lines count beyond
 reaches_least on before (m ∷ ms) fault lines count high beyond =
-    least_by (list_all (λ line. decided line (before ++ m.item ∷ [])) on) m (last_needed on (before ++ m.item ∷ []) ms) fault lines count (All-head (λ (m : Member Feature). count < m.line) m ms high)
+    least_by (list_all (λ line. line_decided line (before ++ m.item ∷ [])) on) m (last_needed on (before ++ m.item ∷ []) ms) fault lines count (All-head (λ (m : Member Feature). count < m.line) m ms high)
     (reaches_least on (before ++ m.item ∷ []) ms fault lines count (All-tail (λ (m : Member Feature). count < m.line) m ms high) beyond)
 
 -- what lines need lies after the records that were taken for them
 pub mask_needs : (how : MaskHow) → AreNeeded (mask_join how)
 mask_needs how given extra past rest fault lines count asked beyond =
     let same = needed_from (given ++ extra) [] past rest (asked_by given extra past asked) in
-    subst (λ (o : Option (Member Feature)). bytes_in (take (suc count) lines) ≤ bytes_up_to lines (last_line o fault)) (sym same) (reaches_least (given ++ extra) (member_items past) rest fault lines count beyond.members beyond.fault)
+    subst (λ (o : Option (Member Feature)). bytes_in (take (suc count) lines) ≤ bytes_up_to lines (last_line_needed o fault)) (sym same) (reaches_least (given ++ extra) (member_items past) rest fault lines count beyond.members beyond.fault)
 
 -- masking has no limit on what is held
 pub mask_limits : (how : MaskHow) → AreLimits (mask_join how)
@@ -131,14 +131,14 @@ module _ (how : MaskHow) (full : Bool) where
         subst (λ (b : Bool). MayCome (new.inputs.taken ++ option_to_list (first_of buffered)) b records fault) (sym goes.follows.second_is)
         (subst (λ (l : List Feature). MayCome (l ++ option_to_list (first_of buffered)) stage.inputs.second_ended records fault) (sym goes.follows.taken_is) may) in
         let follow = may_follow new (first_of buffered) kept (λ e. ap first_of (over (sym goes.follows.second_is ∙ e)).1) records fault here in (
-          list_all-append (λ x. is_none fault || decided x records) written goes.newly
-              ∙ and_from (list_all (λ x. is_none fault || decided x records) written) (list_all (λ x. is_none fault || decided x records) goes.newly) was.0 (newly_by new.inputs.second_ended refl records fault here follow),
+          list_all-append (λ x. is_none fault || line_decided x records) written goes.newly
+              ∙ and_from (list_all (λ x. is_none fault || line_decided x records) written) (list_all (λ x. is_none fault || line_decided x records) goes.newly) was.0 (newly_by new.inputs.second_ended refl records fault here follow),
           flat_map-append (λ x. masked_line how records x) written goes.newly ∙ ap (λ l. l ++ flat_map (λ x. masked_line how records x) goes.newly) was.1
               ∙ ap (λ l. bytes ++ l) (goes.settles.bytes_are records ordered follow),
         );
   }
     where
       newly_by : (b : Bool) → new.inputs.second_ended ≡ b → (records : List Feature) (fault : Option FaultValue) → MayCome (new.inputs.taken ++ option_to_list (first_of buffered)) new.inputs.second_ended records fault → MayFollow new records
-          → list_all (λ x. is_none fault || decided x records) goes.newly ≡ true
-      newly_by true e records fault may follow = all_or (λ x. decided x records) (is_none fault) goes.newly (or_left (is_none fault) _ (ap is_none (may.all e).1))
-      newly_by false e records fault may follow = all_or (λ x. decided x records) (is_none fault) goes.newly (or_right (is_none fault) _ (goes.settles.are_decided records follow e))
+          → list_all (λ x. is_none fault || line_decided x records) goes.newly ≡ true
+      newly_by true e records fault may follow = all_or (λ x. line_decided x records) (is_none fault) goes.newly (or_left (is_none fault) _ (ap is_none (may.all e).1))
+      newly_by false e records fault may follow = all_or (λ x. line_decided x records) (is_none fault) goes.newly (or_right (is_none fault) _ (goes.settles.are_decided records follow e))

@@ -11,7 +11,7 @@ use Rattle.bt_lines.specs.declared.reader.line_reader.LineReader.{LineReader}
 use Rattle.bt_bed.specs.calls.Blocks.{FillsBlocks, below, fault_kept, view_of}
 use Rattle.bt_bed.specs.declared.read.blocks.Blocks.{Blocks}
 use Rattle.bt_bed.proofs.lemmas.order.TableLemmas.{passed_on}
-use Rattle.bt_seq.specs.calls.MaskStage.{MaskStage, with_lines_ended, want_of, first_stage}
+use Rattle.bt_seq.specs.calls.MaskStage.{MaskStage, with_lines_ended, mask_want_of, first_stage}
 use Rattle.bt_seq.specs.calls.MaskState.{Masking}
 use Rattle.bt_seq.specs.calls.MaskSteps.{MaskMovesTo, MaskStandsAt, EndsCheck, EndsRecords}
 use Rattle.bt_seq.specs.model.Masked.{SequenceLine, Reached}
@@ -23,7 +23,7 @@ use Rattle.bt_tool.specs.declared.loops.masking.MaskRun.{MaskRun}
 use Rattle.bt_tool.specs.calls.Run.{TellsNoRead}
 use Rattle.bt_tool.specs.inside.Feed.{IsOwnFault, KeepsOwnFault, IsFresh}
 use Rattle.bt_tool.proofs.lemmas.running.members.MemberLemmas.{IsFilled, IsOver, passes_start}
-use Rattle.bt_tool.specs.inside.MaskLoop.{GoesOn, MaskComes, MaskIsOver, mask_run, wanted_by, Masks, mask_rounds, line_members, mask_join, mask_pair, nothing_reached}
+use Rattle.bt_tool.specs.inside.MaskLoop.{LoopGoesOn, MaskComes, MaskIsOver, mask_run, wanted_by, Masks, mask_rounds, line_members, mask_join, mask_pair, nothing_reached}
 use Rattle.bt_tool.proofs.lemmas.running.mask.MaskedLemmas.{AdvancesMask, MaskEnds, IsMaskReady, mask_left, finishes, stops_lines, stops_records, ends_alone, ends_lines, ends_waiting, fails_at_end, line_made, lines_done, record_made}
 use Rattle.bt_tool.specs.inside.Rounds.{IsLessOrReady, IsLessIfReady, LeadsTo}
 use Rattle.bt_tool.proofs.lemmas.running.members.BlockMembers.{block_filled, block_over, block_stopped, blocks_going}
@@ -54,7 +54,7 @@ module _ {A B : Type 0} {source_a : Source A} {source_b : Source B} {start : Mas
   -- what is wanted was made buffered, or the end of that input was given
   abbrev Fills : LineReader A → MemberReader B Feature (Option Locus) → Masking → Output → Type 0
   Fills new second_now masked grown =
-      GoesOn source_a source_b start before new second_now masked grown
+      LoopGoesOn source_a source_b start before new second_now masked grown
       × ((mask_left new second_now masked < mask_left lines second mask) ⊎ ((mask_left new second_now masked ≤ mask_left lines second mask) × IsMaskReady new second_now masked.want))
 
   module _ (wants : mask.want ≡ WantLine) (new : LineReader A) (kept : IsKept source_a lines → IsKept source_a new) where
@@ -91,7 +91,7 @@ module _ {A B : Type 0} {source_a : Source A} {source_b : Source B} {start : Mas
               arith,
               over.ends.shrinks,
               at_records (is_some mask.waiting) mask.want (waits_is s.stands ∙ ap is_some e) wants,
-              at_end (is_some masked.waiting) masked.want (ends.0.stands.want_is ∙ ap (λ b. want_of false b true) finished),
+              at_end (is_some masked.waiting) masked.want (ends.0.stands.want_is ∙ ap (λ b. mask_want_of false b true) finished),
             )),
           )
 
@@ -138,7 +138,7 @@ module _ {A B : Type 0} {source_a : Source A} {source_b : Source B} {start : Mas
   own_second = none_kept source_b.is_read (below old.records) (view_of old.records).fault (below old.records) none_second
 
   -- it has come to these
-  abbrev pub came : (new : MaskRun A B) (later : Output) → GoesOn source_a source_b start out new.lines (view_of new.records) new.mask later → HasRead source_a.is_read old.lines new.lines
+  abbrev pub came : (new : MaskRun A B) (later : Output) → LoopGoesOn source_a source_b start out new.lines (view_of new.records) new.mask later → HasRead source_a.is_read old.lines new.lines
       → HasRead source_b.is_read (below old.records) (below new.records) → MaskComes source_a source_b start out new later
   came new later goes read read_second = record {
     goes = goes;
@@ -246,7 +246,7 @@ module _ {A B : Type 0} {source_a : Source A} {source_b : Source B} {start : Mas
         (none_kept source_b.is_read (below old.records) (view_of new.records).fault (below new.records) (keeps_second ∙ none_second))
 
     pub gave_both : {T : Type 0} (answer : Result T Fault)
-        → ((start : MaskRun A B) (out : Output) → GoesOn source_a source_b start out old.lines (view_of old.records) old.mask grown → AdvancesMask source_a source_b start out old.lines (view_of old.records) old.mask answer new.lines (view_of new.records) new.mask later)
+        → ((start : MaskRun A B) (out : Output) → LoopGoesOn source_a source_b start out old.lines (view_of old.records) old.mask grown → AdvancesMask source_a source_b start out old.lines (view_of old.records) old.mask answer new.lines (view_of new.records) new.mask later)
         → Leads (IsLessIfReady (mask_run source_a source_b) old) answer new later
     gave_both answer gives = gave_by answer (gives start out s.goes)
 

@@ -12,14 +12,14 @@ use Rattle.bt_bed.specs.model.BedLine.{fault_at_line}
 use Rattle.bt_bed.specs.model.Sorted.{Locus}
 use Rattle.bt_bed.specs.calls.Reading.{MemberReader, room, ahead_in, first_from, good_coming, state_behind}
 use Rattle.bt_bed.specs.calls.Stage.{given}
-use Rattle.bt_seq.specs.calls.MaskStage.{MaskStage, reached, reached_by, want_of, with_bed_ended, with_lines_ended}
+use Rattle.bt_seq.specs.calls.MaskStage.{MaskStage, reached, reached_by, mask_want_of, with_bed_ended, with_lines_ended}
 use Rattle.bt_seq.specs.calls.MaskState.{Masking, left_after}
-use Rattle.bt_seq.specs.model.Masked.{Reached, SequenceLine, decided, masked_line, names_of, no_sequence, line_says, sequence_format}
+use Rattle.bt_seq.specs.model.Masked.{Reached, SequenceLine, line_decided, masked_line, names_of_sequences, no_sequence, line_says, sequence_format}
 use Rattle.bt_seq.specs.declared.mask.MaskWant.{MaskWant}
 use Rattle.bt_tool.specs.declared.loops.masking.MaskRun.{MaskRun}
 use Rattle.bt_tool.specs.inside.Feed.{IsKeptBelow, member_items}
 use Rattle.bt_tool.specs.inside.Pair.{PairEnds, IsKnown, JoinDef, Pair, SettlesPair, item_ahead, AsksFor, Comes}
-use Rattle.bt_tool.specs.inside.MaskLoop.{GoesOn, begun_pair, mask_join, mask_rounds, wanted_by, AreOwned, Masks, leaves_some, line_members, nothing_reached}
+use Rattle.bt_tool.specs.inside.MaskLoop.{LoopGoesOn, begun_pair, mask_join, mask_rounds, wanted_by, AreOwned, Masks, leaves_some_line, line_members, nothing_reached}
 use Rattle.bt_tool.specs.inside.Rounds.{IsBuffered}
 use Rattle.std.specs.List.{last_or}
 use Rattle.bt_lines.specs.model.Lines.{TextLine}
@@ -61,14 +61,14 @@ module _ {A B : Type 0} (source_a : Source A) (source_b : Source B) (start : Mas
   -- what is buffered was given, as far as it is wanted
   abbrev pub AdvancesMask : {T : Type 0} → LineReader A → MemberReader B Feature (Option Locus) → Masking → Result T Fault → LineReader A → MemberReader B Feature (Option Locus) → Masking → Output → Type 0
   AdvancesMask old old_second old_mask (Ok done) lines second mask grown =
-      GoesOn source_a source_b start out lines second mask grown × (mask_left lines second mask ≤ mask_left old old_second old_mask)
+      LoopGoesOn source_a source_b start out lines second mask grown × (mask_left lines second mask ≤ mask_left old old_second old_mask)
       × (IsMaskReady old old_second old_mask.want → mask_left lines second mask < mask_left old old_second old_mask)
   AdvancesMask old old_second old_mask (Err fault) lines second mask grown = MaskEnds (Some (fault_value fault)) lines second grown
 
 -- Lemmas on how far a masking engine over two readers has come: what it wants, and what its inputs still have then.
 
 -- what is wanted shows what waits
-wants_none : (w : Option SequenceLine) (lines_ended bed_ended : Bool) → want_of (is_some w) lines_ended bed_ended ≡ Nothing → (w ≡ None) × (lines_ended ≡ true) × (bed_ended ≡ true)
+wants_none : (w : Option SequenceLine) (lines_ended bed_ended : Bool) → mask_want_of (is_some w) lines_ended bed_ended ≡ Nothing → (w ≡ None) × (lines_ended ≡ true) × (bed_ended ≡ true)
 wants_none w lines_ended bed_ended e = grind arith
 
 -- how far the lines given have come is what is known after them
@@ -82,10 +82,10 @@ reached_behind full [] = refl
 reached_behind full (line ∷ lines) = reached_said full line lines (record { names = []; bases = 0 })
 
 -- the last line is one of them
-last_leaves : (lines : List SequenceLine) (line : SequenceLine) (records : List Feature) → last_or None lines ≡ Some line → decided line records ≡ false → IsTrue (leaves_some lines records)
+last_leaves : (lines : List SequenceLine) (line : SequenceLine) (records : List Feature) → last_or None lines ≡ Some line → line_decided line records ≡ false → IsTrue (leaves_some_line lines records)
 last_leaves [] line records e open_at = cc
 last_leaves (x ∷ []) line records e open_at = grind arith
-last_leaves (x ∷ next ∷ lines) line records e open_at = or_right (not (decided x records)) (leaves_some (next ∷ lines) records) (last_leaves (next ∷ lines) line records e open_at)
+last_leaves (x ∷ next ∷ lines) line records e open_at = or_right (not (line_decided x records)) (leaves_some_line (next ∷ lines) records) (last_leaves (next ∷ lines) line records e open_at)
 
 -- the first record without a sequence
 told_by : (names : List (List ℕ)) (good : Option (Good Feature)) (past : List (Member Feature)) (m : Member Feature) (fault : FaultValue) → fault ≡ fault_at_line Second m.line NoSequence
@@ -105,8 +105,8 @@ pub wrong_first : (full : Bool) (state : Reached) (line : TextLine) (kind : Kind
 wrong_first full state line kind e = rw (wrong_is_text full state line kind e) refl
 
 -- a line that the next record decides stays as it is, whatever follows
-stays_before : (how : MaskHow) (line : SequenceLine) (taken : List Feature) (r : Feature) (next : Option Feature) → next ≡ Some r → decided line (taken ++ r ∷ []) ≡ true → (rest : List Feature) → AreInBlocks ((taken ++ option_to_list next) ++ rest)
-    → (decided line ((taken ++ option_to_list next) ++ rest) ≡ true) × (masked_line how ((taken ++ option_to_list next) ++ rest) line ≡ masked_line how taken line)
+stays_before : (how : MaskHow) (line : SequenceLine) (taken : List Feature) (r : Feature) (next : Option Feature) → next ≡ Some r → line_decided line (taken ++ r ∷ []) ≡ true → (rest : List Feature) → AreInBlocks ((taken ++ option_to_list next) ++ rest)
+    → (line_decided line ((taken ++ option_to_list next) ++ rest) ≡ true) × (masked_line how ((taken ++ option_to_list next) ++ rest) line ≡ masked_line how taken line)
 stays_before how line taken r next e decides rest ordered = grind (arith, append_assoc, decided_stays, masked_before)
 
 -- masking has come so far
@@ -160,10 +160,10 @@ module _ {A B : Type 0} {source_a : Source A} {source_b : Source B} {start : Mas
     owned_alone = search rules
 
     none_lacks : join.last stage.inputs.written s.past_second ≡ None
-    none_lacks = lack_none (names_of stage.inputs.written) s.past_second (search rules)
+    none_lacks = lack_none (names_of_sequences stage.inputs.written) s.past_second (search rules)
 
   -- a line that waits isn't decided by what was taken
-  undecided : (line : SequenceLine) → stage.inputs.waiting ≡ Some line → decided line stage.inputs.taken ≡ false
+  undecided : (line : SequenceLine) → stage.inputs.waiting ≡ Some line → line_decided line stage.inputs.taken ≡ false
   undecided line waits = grind (arith, (last_waits stage line waits))
 
   -- a line is wanted
@@ -249,7 +249,7 @@ module _ {A B : Type 0} {source_a : Source A} {source_b : Source B} {start : Mas
     m_ahead = ap (first_from (suc (lines_given second.below))) buffered
 
     -- if it decides the waiting line, that stays as it is
-    settles_decided : (a : SequenceLine) → decided a (stage.inputs.taken ++ r ∷ []) ≡ true → IsKnown pair
+    settles_decided : (a : SequenceLine) → line_decided a (stage.inputs.taken ++ r ∷ []) ≡ true → IsKnown pair
         → SettlesPair join (stage.inputs.written ++ a ∷ []) (s.comes.bytes ++ masked_line start.mask.how stage.inputs.taken a) (stage.inputs.taken ++ option_to_list (item_ahead second)) stage.inputs.second_ended
     settles_decided a decides known =
         settles_with join stage.inputs.written s.comes.bytes (stage.inputs.taken ++ option_to_list (item_ahead second)) stage.inputs.second_ended a (masked_line start.mask.how stage.inputs.taken a) (s.comes.settles known)
@@ -268,7 +268,7 @@ module _ {A B : Type 0} {source_a : Source A} {source_b : Source B} {start : Mas
             kind = NoSequence;
             is = lacks.is;
             of_kind = refl;
-            told = told_by (names_of stage.inputs.written) (good_coming source_b.left (view_of start.records)) s.past_second m fault lacks.is (owned_alone none) (grind (arith, map-append, append-nil))
+            told = told_by (names_of_sequences stage.inputs.written) (good_coming source_b.left (view_of start.records)) s.past_second m fault lacks.is (owned_alone none) (grind (arith, map-append, append-nil))
                 (stop.seen_begins source_b.left (good_coming source_b.left (view_of start.records)) second s.past_second (Some m) m_ahead s.comes.second_passes.come s.comes.second_passes.ahead);
             serves = stop.second_serves s.comes;
           },

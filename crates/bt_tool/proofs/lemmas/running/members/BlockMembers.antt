@@ -16,7 +16,7 @@ use Rattle.bt_bed.specs.model.BedLine.{fault_at_line}
 use Rattle.bt_bed.specs.calls.Reading.{BeginsComing, IsBeyond, AreSaid, MemberReader, good_behind, good_coming, members_from, state_behind, with_members}
 use Rattle.bt_bed.specs.declared.read.batch.Batch.{Batch}
 use Rattle.bt_bed.specs.declared.read.blocks.Blocks.{Blocks}
-use Rattle.bt_tool.specs.inside.Feed.{HasTaken, ComeFirst, IsReadFor, Passes, StopsAfter}
+use Rattle.bt_tool.specs.inside.Feed.{HasTaken, ComeFirst, IsReadFor, PassesMembers, StopsAfter}
 use Rattle.bt_tool.proofs.lemmas.running.members.MemberLemmas.{IsFilled, IsOver, IsStopped, members_low}
 use Rattle.bt_tool.proofs.lemmas.running.members.PassedLemmas.{consumed_of}
 use Rattle.bt_lines.proofs.lemmas.reader.lines.TakingLemmas.{hands_both, sound_near, is_prefix, near_next}
@@ -132,8 +132,8 @@ module _ {S : Type 0} (device : Source S) (full : Bool) where
   good_lines reached items lines none = ap (λ fault. option_map (good_behind (sequence_format full) (input_of lines) fault reached) (lines_left device.left lines)) none
 
   -- a line was made buffered
-  module _ (old : MemberReader S SequenceLine Reached) (past : List (Member SequenceLine)) (reached : Reached) (lines new : LineReader S) (g : Passes device old past (line_members full reached lines)) where
-    pub passes_made : MakesLine device lines new → (IsKept device lines → IsKept device new) → Passes device old past (line_members full reached new)
+  module _ (old : MemberReader S SequenceLine Reached) (past : List (Member SequenceLine)) (reached : Reached) (lines new : LineReader S) (g : PassesMembers device old past (line_members full reached lines)) where
+    pub passes_made : MakesLine device lines new → (IsKept device lines → IsKept device new) → PassesMembers device old past (line_members full reached new)
     passes_made makes kept =
         let lines_now = lines_same (lines_left device.left old.below) (lines_left device.left lines) (lines_left device.left new) (lines_given lines) (lines_given new) makes.counted g.lines makes.same in
         record {
@@ -194,11 +194,11 @@ module _ {S : Type 0} (device : Source S) (full : Bool) where
       has_taken = grind (arith, append-nil, say_said, good_lines, left_numbered, say_known, still_unknown, good_said)
 
       -- they were known to come
-      pub passes_known : (old : MemberReader S SequenceLine Reached) (past : List (Member SequenceLine)) → Passes device old past (line_members full reached lines) → Passes device old past (known_members reached items lines)
+      pub passes_known : (old : MemberReader S SequenceLine Reached) (past : List (Member SequenceLine)) → PassesMembers device old past (line_members full reached lines) → PassesMembers device old past (known_members reached items lines)
       passes_known old past g = grind (arith, good_lines, good_then)
 
   -- lines were taken, of which the last one is at fault
-  module _ (old : MemberReader S SequenceLine Reached) (past : List (Member SequenceLine)) (reached : Reached) (lines new : LineReader S) (g : Passes device old past (line_members full reached lines))
+  module _ (old : MemberReader S SequenceLine Reached) (past : List (Member SequenceLine)) (reached : Reached) (lines new : LineReader S) (g : PassesMembers device old past (line_members full reached lines))
       (before : List TextLine) (line : TextLine) (more : List TextLine) (items : List SequenceLine) (say : SayEach full reached before items) (kind : Kind) (says : line_says full (state_behind (sequence_format full) reached items) line ≡ Err kind)
       (parts : buffered_in lines ≡ (before ++ line ∷ []) ++ more) (numbered : AreNumbered (suc (lines_given lines)) (before ++ line ∷ [])) (consumed : ConsumedLines) (are : TakenLines lines consumed (length (before ++ line ∷ [])))
       (takes : TakesLines device lines consumed new) (fault : FaultValue) (is : fault ≡ fault_at_line (input_of old.below) line.number kind) where

@@ -13,7 +13,7 @@ use Rattle.bt_lines.specs.declared.reader.line_reader.LineReader.{LineReader}
 use Rattle.bt_lines.specs.inside.ReadBuffer.{unread}
 use Rattle.bt_lines.proofs.lemmas.reader.lines.TakingLemmas.{hands_none, hands_both, sound_near}
 use Rattle.bt_lines.proofs.lemmas.reader.lines.TextLemmas.{bytes_in-append}
-use Rattle.bt_tool.specs.inside.Feed.{IsFresh, AreAll, ComeFirst, HasFaultBehind, HasTaken, IsReadFor, LacksMemory, Passes, StopsAfter, member_items}
+use Rattle.bt_tool.specs.inside.Feed.{IsFresh, AreAll, ComeFirst, HasFaultBehind, HasTaken, IsReadFor, LacksMemory, PassesMembers, StopsAfter, member_items}
 use Rattle.bt_bed.proofs.lemmas.read.good.ReadingLemmas.{near_pass, LineCame}
 use Rattle.bt_tool.proofs.lemmas.running.feed.WritingLemmas.{begins_beyond, begins_with, cuts_both, lines_on, near_from_start, up_to}
 use Rattle.bt_tool.proofs.lemmas.running.pair.StopLemmas.{beyond_now, stops_faulty, coming_is}
@@ -149,7 +149,7 @@ behind_last count old past m at b = grind (arith, append_assoc)
 
 module _ {S A State : Type 0} (device : Source S) (old : MemberReader S A State) where
   -- before the first record
-  pub passes_start : IsFresh device old → line_fault old.below ≡ None → Passes device old [] old
+  pub passes_start : IsFresh device old → line_fault old.below ≡ None → PassesMembers device old [] old
   passes_start fresh clear = record {
     format = refl;
     bytes = ([], hands_none device.left old.below);
@@ -166,12 +166,12 @@ module _ {S A State : Type 0} (device : Source S) (old : MemberReader S A State)
     near = near_more (lines_left device.left old.below) (device.left (source_of old.below)) 0 (suc (lines_given old.below)) (omega arith) (sound_near device old.below fresh.sound clear);
   }
 
-  module _ (past : List (Member A)) (now : MemberReader S A State) (g : Passes device old past now) where
+  module _ (past : List (Member A)) (now : MemberReader S A State) (g : PassesMembers device old past now) where
     pub bytes_more : (new : MemberReader S A State) → (bytes : List ℕ) × Hands device.left now.below bytes new.below → (bytes : List ℕ) × Hands device.left old.below bytes new.below
     bytes_more new hands = (g.bytes.0 ++ hands.0, hands_both device.left old.below now.below new.below g.bytes.0 hands.0 g.bytes.1 hands.1)
 
     -- a member is buffered
-    pub passes_fill : (new : MemberReader S A State) → IsFilled device now new → Passes device old past new
+    pub passes_fill : (new : MemberReader S A State) → IsFilled device now new → PassesMembers device old past new
     passes_fill new fills =
         let gives = fills.gives in
         record {
@@ -193,7 +193,7 @@ module _ {S A State : Type 0} (device : Source S) (old : MemberReader S A State)
 
     -- members were taken
     pub passes_take : (taken : List A) (new : MemberReader S A State) → HasTaken device now taken new
-        → Passes device old (past ++ members_from (suc (lines_given now.below)) taken) new
+        → PassesMembers device old (past ++ members_from (suc (lines_given now.below)) taken) new
     passes_take taken new has =
         let takes = has.takes in
         let items = items_take past (suc (lines_given now.below)) taken in
@@ -223,7 +223,7 @@ module _ {S A State : Type 0} (device : Source S) (old : MemberReader S A State)
     pub passes_all : (new : MemberReader S A State) → IsOver device now new → AreAll device old past
     passes_all new ended = search rules
 
-    pub passes_end : (new : MemberReader S A State) → IsOver device now new → Passes device old past new
+    pub passes_end : (new : MemberReader S A State) → IsOver device now new → PassesMembers device old past new
     passes_end new ended = record {
       format = ended.ends.stays.format ∙ g.format;
       bytes = bytes_more new ended.ends.stays.bytes;
@@ -300,7 +300,7 @@ module _ {S A State : Type 0} (device : Source S) (old : MemberReader S A State)
         }
 
   -- members were taken: how far the input was read beside those before the last one
-  module _ (past : List (Member A)) (now : MemberReader S A State) (g : Passes device old past now) (xs : List A) (a : A) (new : MemberReader S A State) (has : HasTaken device now (xs ++ a ∷ []) new) where
+  module _ (past : List (Member A)) (now : MemberReader S A State) (g : PassesMembers device old past now) (xs : List A) (a : A) (new : MemberReader S A State) (has : HasTaken device now (xs ++ a ∷ []) new) where
     abbrev from : ℕ
     from = suc (lines_given now.below)
 
@@ -360,7 +360,7 @@ module _ {A State : Type 0} (format : Format A State) (input : Input) (state : S
   unfolding good_from
   come_some old a b line item past c g e = grind (arith, append_assoc)
 
-module _ {S A State : Type 0} {device : Source S} {old now : MemberReader S A State} {past : List (Member A)} (g : Passes device old past now) (new : MemberReader S A State) {line : TextLine}
+module _ {S A State : Type 0} {device : Source S} {old now : MemberReader S A State} {past : List (Member A)} (g : PassesMembers device old past now) (new : MemberReader S A State) {line : TextLine}
     (gives : GivesLine device now.below line new.below) (kept : IsKept device now.below → IsKept device new.below) (format : new.format ≡ now.format) (none : new.buffered ≡ []) (going : new.fault ≡ None) where
   lines_pass : LinesPass device.left now.below new.below
   lines_pass = grind arith
@@ -385,7 +385,7 @@ module _ {S A State : Type 0} {device : Source S} {old now : MemberReader S A St
   coming_after = grind (arith, coming_is)
 
   passes_with : (given : List (Member A)) → AreSaid old.format old.state (member_items given) → new.state ≡ state_behind old.format old.state (member_items given)
-      → ComeFirst (good_coming device.left old) given (good_coming device.left new) → All (λ m. m.line ≤ lines_given new.below) given → Passes device old given new
+      → ComeFirst (good_coming device.left old) given (good_coming device.left new) → All (λ m. m.line ≤ lines_given new.below) given → PassesMembers device old given new
   passes_with given said state come behind = record {
     format = format ∙ g.format;
     bytes = (g.bytes.0 ++ gives.bytes.0, hands_both device.left old.below now.below new.below g.bytes.0 gives.bytes.0 g.bytes.1 gives.bytes.1);
@@ -403,7 +403,7 @@ module _ {S A State : Type 0} {device : Source S} {old now : MemberReader S A St
   }
 
   -- the line says no member
-  pub passes_none : now.format.says now.state line ≡ Ok None → new.state ≡ now.state → Passes device old past new
+  pub passes_none : now.format.says now.state line ≡ Ok None → new.state ≡ now.state → PassesMembers device old past new
   passes_none says same = grind (arith, passes_with, coming_is, none_comes, coming_before)
 
   -- the line says this one
@@ -414,7 +414,7 @@ module _ {S A State : Type 0} {device : Source S} {old now : MemberReader S A St
     items : member_items (past ++ member ∷ []) ≡ member_items past ++ item ∷ []
     items = map-append (λ m. m.item) past (member ∷ [])
 
-    pub passes_some : Passes device old (past ++ member ∷ []) new
+    pub passes_some : PassesMembers device old (past ++ member ∷ []) new
     passes_some =
         passes_with (past ++ member ∷ [])
         (rw items (said_more old.format old.state (member_items past) (item ∷ []) g.said

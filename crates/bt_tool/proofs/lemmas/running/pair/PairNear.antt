@@ -14,7 +14,7 @@ use Rattle.bt_bed.specs.model.Feature.{Feature}
 use Rattle.bt_bed.specs.model.Good.{Format, Good, Member, good, good_from, good_handed, good_with, items_in}
 use Rattle.bt_bed.specs.calls.Reading.{BeginsComing, IsBeyond, IsFaultBeyond, MemberReader, ahead_in, first_from as first_of_members, good_coming}
 use Rattle.bt_bed.proofs.lemmas.read.good.SaidLemmas.{ascend_from, first_from}
-use Rattle.bt_tool.specs.model.Written.{bytes_up_to, last_line}
+use Rattle.bt_tool.specs.model.Written.{bytes_up_to, last_line_needed}
 use Rattle.bt_tool.specs.calls.Run.{IsFaultButWrite, IsWithin, ReadsNoFurther}
 use Rattle.bt_tool.specs.inside.Feed.{TookButBlock, member_items, ConsumesGiven, HasTaken}
 use Rattle.bt_tool.specs.calls.Inputs.{HandsUpTo}
@@ -71,7 +71,7 @@ not_all test [] e = absurd (false≢true e)
 not_all test (x ∷ xs) e = open_by (test x) (list_any (λ x. not (test x)) xs) (list_all test xs) e (not_all test xs)
 
 pub least_by : (b : Bool) (m : Member Feature) (o : Option (Member Feature)) (fault : Option FaultValue) (lines : List TextLine) (count : ℕ) → count < m.line
-    → bytes_in (take (suc count) lines) ≤ bytes_up_to lines (last_line o fault) → bytes_in (take (suc count) lines) ≤ bytes_up_to lines (last_line (if b then Some m else o) fault)
+    → bytes_in (take (suc count) lines) ≤ bytes_up_to lines (last_line_needed o fault) → bytes_in (take (suc count) lines) ≤ bytes_up_to lines (last_line_needed (if b then Some m else o) fault)
 least_by true m o fault lines count low h = take_less (suc count) m.line lines (omega arith)
 least_by false m o fault lines count low h = h
 
@@ -80,7 +80,7 @@ place_least None lines count h = take_whole (suc count) lines
 place_least (Some place) lines count h = take_less (suc count) place.line lines (omega arith)
 
 -- where no member is needed, the lines up to the fault are
-pub fault_least : (fault : Option FaultValue) (lines : List TextLine) (count : ℕ) → IfSome fault (IsFaultBeyond count) → bytes_in (take (suc count) lines) ≤ bytes_up_to lines (last_line None fault)
+pub fault_least : (fault : Option FaultValue) (lines : List TextLine) (count : ℕ) → IfSome fault (IsFaultBeyond count) → bytes_in (take (suc count) lines) ≤ bytes_up_to lines (last_line_needed None fault)
 fault_least None lines count h = take_whole (suc count) lines
 fault_least (Some fault) lines count h = place_least fault.place lines count h
 

@@ -13,7 +13,7 @@ use Rattle.bt_lines.specs.declared.fault.Kind.{Kind}
 use Rattle.bt_bed.specs.model.Good.{Good, Member, items_in}
 use Rattle.bt_bed.specs.model.BedLine.{fault_at_line}
 use Rattle.bt_bed.specs.calls.Reading.{MemberReader, ahead_in, first_from, good_coming}
-use Rattle.bt_tool.specs.inside.Feed.{ComeFirst, CutsLines, HasPut, member_items, AreAll, IsReadFor, IsReadTo, Passes, StopsAfter}
+use Rattle.bt_tool.specs.inside.Feed.{ComeFirst, CutsLines, HasPut, member_items, AreAll, IsReadFor, IsReadTo, PassesMembers, StopsAfter}
 use Rattle.bt_tool.specs.inside.Pair.{IsKnown, JoinDef, Pair, Serves, SettlesPair, item_ahead, Comes, AsksFor, PairEnds, LastTold, SecondFails, StaysNear, Why, Wrote}
 use Rattle.bt_bed.specs.calls.Stage.{given, Stage}
 use Rattle.bt_tool.proofs.lemmas.running.pair.PairTurns.{TakesFurther, settles_end, all_written, none_pushed, read_same, seen_alone, settles_ended}
@@ -54,7 +54,7 @@ begins_items device reader past items rest e begins = items_first (good_coming d
 -- what was written, by the second reader where it is, and what was read of it later
 wrote_by : {A B X Y U V : Type 0} {join : JoinDef X Y} {pair : Pair A B X Y U V} {out : Output} {past : List (Member Y)}
     {now new : MemberReader B Y V} {first : MemberReader A X U} {written : List X} {bytes : List ℕ} {grown : Output}
-    → Passes pair.source_b pair.second past now
+    → PassesMembers pair.source_b pair.second past now
     → (IsSome new.fault → All (λ m. m.line ≤ lines_given new.below) (past ++ option_to_list (ahead_in now)))
     → HandsOver pair.source_b pair.second new → HandsOver pair.source_a pair.first first → (ended : Bool)
     → (IsKnown pair → SettlesPair join written bytes (member_items past ++ option_to_list (item_ahead now)) ended)

@@ -4,7 +4,7 @@ use Rattle.bt_lines.specs.declared.device.Source.{Ghosts as Source}
 use Rattle.bt_lines.specs.calls.Reader.{end_told, source_of, lines_given, lines_left, Hands, HasRead}
 use Rattle.bt_bed.specs.model.Good.{Member}
 use Rattle.bt_bed.specs.calls.Reading.{MemberReader, GivesMember, ahead_in, first_from, good_coming, members_from}
-use Rattle.bt_tool.specs.inside.Feed.{IsReadFor, Passes, HasPut, member_items, AreAll, HasTaken}
+use Rattle.bt_tool.specs.inside.Feed.{IsReadFor, PassesMembers, HasPut, member_items, AreAll, HasTaken}
 use Rattle.bt_tool.specs.inside.Pair.{JoinDef, MayCome, SettlesPair, HasNoMore, IsKnown, Pair, item_ahead, Comes}
 use Rattle.bt_bed.specs.calls.Stage.{Follows, Stage, at_start, given, with_first_ended, with_second_ended}
 use Rattle.bt_lines.specs.model.Fault.{FaultValue}
@@ -22,7 +22,7 @@ use Rattle.bt_tool.proofs.lemmas.running.feed.WritingLemmas.{up_to}
 pub record TakesFurther {S A State : Type 0} (device : Source S)
     (old : MemberReader S A State) (past more : List (Member A))
     (now new : MemberReader S A State) : Type 0 where
-  pub passes : Passes device old (past ++ more) new
+  pub passes : PassesMembers device old (past ++ more) new
   -- the last of them is on the last line that was given
   pub last : (before : List (Member A)) (m : Member A) → more ≡ before ++ m ∷ []
       → IsReadFor device old (past ++ before) (past ++ more) new
@@ -115,7 +115,7 @@ from_push line [] x = (record { line = line; item = x }, refl)
 from_push line (y ∷ items) x = let rest = from_push (suc line) items x in (rest.0, ap (λ l. record { line = line; item = y } ∷ l) rest.1)
 
 -- a reader of members took some
-module _ {S A State : Type 0} (device : Source S) (old : MemberReader S A State) (past : List (Member A)) (now : MemberReader S A State) (p : Passes device old past now) where
+module _ {S A State : Type 0} (device : Source S) (old : MemberReader S A State) (past : List (Member A)) (now : MemberReader S A State) (p : PassesMembers device old past now) where
   abbrev n : ℕ
   n = suc (lines_given now.below)
 
@@ -175,7 +175,7 @@ seen_alone {S} {A} {State} taken now none = grind (arith, append-nil)
 
 module _ {A B X Y U V : Type 0} (join : JoinDef X Y) (pair : Pair A B X Y U V) (out : Output) where
   -- nothing was given yet
-  pub comes_start : Passes pair.source_a pair.first [] pair.first → Passes pair.source_b pair.second [] pair.second
+  pub comes_start : PassesMembers pair.source_a pair.first [] pair.first → PassesMembers pair.source_b pair.second [] pair.second
       → HoldsBlock out.took out.put → Comes join pair out at_start [] [] pair.first pair.second out
   comes_start passes passes_second block = record {
     first_passes = passes;
@@ -198,7 +198,7 @@ module _ {A B X Y U V : Type 0} {join : JoinDef X Y} {pair : Pair A B X Y U V} {
   all_written none = sym (append-nil stage.written) ∙ ap (λ (o : Option X). stage.written ++ option_to_list o) (sym none) ∙ s.all_given
 
   -- the first input was read on, perhaps to its end
-  with_first : (b : Bool) → stage.waiting ≡ None → (first_now : MemberReader A X U) (p : Passes pair.source_a pair.first past_first first_now)
+  with_first : (b : Bool) → stage.waiting ≡ None → (first_now : MemberReader A X U) (p : PassesMembers pair.source_a pair.first past_first first_now)
       → (b ≡ true → AreAll pair.source_a pair.first past_first × (first_now.buffered ≡ []) × (end_told first_now.below ≡ true))
       → (b ≡ true → HasNoMore pair first_now (read_here pair.source_a pair.first past_first first_now p).to.count)
       → Comes join pair out (record stage { first_ended = b }) past_first past_second first_now second grown
@@ -215,7 +215,7 @@ module _ {A B X Y U V : Type 0} {join : JoinDef X Y} {pair : Pair A B X Y U V} {
     near_first = (past_first, sym (all_written none), read_here pair.source_a pair.first past_first first_now p, no_more);
   }
 
-  pub reads_first : stage.waiting ≡ None → stage.first_ended ≡ false → (first_now : MemberReader A X U) → Passes pair.source_a pair.first past_first first_now
+  pub reads_first : stage.waiting ≡ None → stage.first_ended ≡ false → (first_now : MemberReader A X U) → PassesMembers pair.source_a pair.first past_first first_now
       → Comes join pair out stage past_first past_second first_now second grown
   reads_first none going first_now p = with_first stage.first_ended none first_now p (λ e. absurd (false≢true (sym going ∙ e))) (λ e. absurd (false≢true (sym going ∙ e)))
 
@@ -311,7 +311,7 @@ module _ {A B X Y U V : Type 0} {join : JoinDef X Y} {pair : Pair A B X Y U V} {
 
   -- the first input has ended
   module _ (none : stage.waiting ≡ None) (going : stage.first_ended ≡ false) (first_now : MemberReader A X U) (over : IsOver pair.source_a first first_now) where
-    ended_passes : Passes pair.source_a pair.first past_first first_now
+    ended_passes : PassesMembers pair.source_a pair.first past_first first_now
     ended_passes = passes_end pair.source_a pair.first past_first first s.first_passes first_now over
 
     no_more_first : HasNoMore pair first_now (read_here pair.source_a pair.first past_first first_now ended_passes).to.count
@@ -378,7 +378,7 @@ pub record IsReadOn {S A State : Type 0} (device : Source S) (before now : Membe
   -- the member that was ahead is consumed, if any is
   pub moves : (now ≡ before) ⊎ (lines_given before.below < lines_given now.below)
   pub going : before.fault ≡ None → now.fault ≡ None
-  pub passes : (old : MemberReader S A State) (past : List (Member A)) → Passes device old past before → (more : List (Member A)) × Passes device old (past ++ more) now
+  pub passes : (old : MemberReader S A State) (past : List (Member A)) → PassesMembers device old past before → (more : List (Member A)) × PassesMembers device old (past ++ more) now
 
 module _ {S A State : Type 0} (device : Source S) (before : MemberReader S A State) where
   pub reads_start : IsReadOn device before before
@@ -409,7 +409,7 @@ module _ {S A State : Type 0} (device : Source S) (before : MemberReader S A Sta
         }
 
     pub reads_end : (new : MemberReader S A State) → IsOver device now new → (old : MemberReader S A State) (past : List (Member A))
-        → Passes device old past before → (more : List (Member A)) × Passes device old (past ++ more) new × AreAll device old (past ++ more)
+        → PassesMembers device old past before → (more : List (Member A)) × PassesMembers device old (past ++ more) new × AreAll device old (past ++ more)
     reads_end new over old past p =
         let was = on.passes old past p in
         (was.0, passes_end device old (past ++ was.0) now was.1 new over, passes_all device old (past ++ was.0) now was.1 new over)
@@ -425,7 +425,7 @@ module _ {S A State : Type 0} (device : Source S) (before : MemberReader S A Sta
         ]
 
     pub reads_stop : (kinds : Kind → Type 0) (new : MemberReader S A State) (fault : FaultValue) → IsStopped device now fault new → (old : MemberReader S A State) (past : List (Member A))
-        → Passes device old past before → ((state : State) (line : TextLine) (kind : Kind) → old.format.says state line ≡ Err kind → kinds kind)
+        → PassesMembers device old past before → ((state : State) (line : TextLine) (kind : Kind) → old.format.says state line ≡ Err kind → kinds kind)
         → ChecksUpTo device old past before kinds fault new
     reads_stop kinds new fault stopped old past p wrong =
         let was = on.passes old past p in

@@ -11,7 +11,7 @@ use Rattle.bt_sweep.specs.calls.Sweeping.{leaves_some, Settles, AreDecided, Take
 use Rattle.bt_sweep.specs.declared.hits.hit_rule.HitRule.{HitRule}
 use Rattle.bt_sweep.specs.declared.output.shape.Shape.{Shape}
 use Rattle.bt_tool.specs.declared.loops.sweeping.SweepConfig.{SweepConfig}
-use Rattle.bt_tool.specs.model.Written.{bytes_up_to, decider, last_line}
+use Rattle.bt_tool.specs.model.Written.{bytes_up_to, decider, last_line_needed}
 use Rattle.bt_tool.specs.inside.Feed.{member_items}
 use Rattle.bt_tool.specs.inside.SweepLoop.{sweep_join, AreWithin}
 use Rattle.bt_tool.proofs.lemmas.running.pair.PairNear.{AreNeeded, fault_least, least_by, not_all}
@@ -47,7 +47,7 @@ module _ (order : Order) where
 
   -- the record that decides all is after the first lines
   reaches_least : (as_given : List Feature) (rest : List (Member Feature)) (fault : Option FaultValue) (lines : List TextLine) (count : ℕ) → All (λ m. count < m.line) rest → IfSome fault (IsFaultBeyond count)
-      → bytes_in (take (suc count) lines) ≤ bytes_up_to lines (last_line (decider order as_given rest) fault)
+      → bytes_in (take (suc count) lines) ≤ bytes_up_to lines (last_line_needed (decider order as_given rest) fault)
   reaches_least as_given [] fault lines count high beyond = fault_least fault lines count beyond
   reaches_least as_given (m ∷ ms) fault lines count high beyond =
       least_by (list_all (λ a. decides order a m.item) as_given) m (decider order as_given ms) fault lines count (All-head (λ (m : Member Feature). count < m.line) m ms high)
@@ -57,7 +57,7 @@ module _ (order : Order) where
   pub sweep_needs : (config : SweepConfig) → AreNeeded (sweep_join order config)
   sweep_needs config given extra past rest fault lines count reached beyond =
       let same = decider_behind (given ++ extra) past rest (leaves_more given extra (member_items past) reached) in
-      subst (λ (o : Option (Member Feature)). bytes_in (take (suc count) lines) ≤ bytes_up_to lines (last_line o fault)) (sym same) (reaches_least (given ++ extra) rest fault lines count beyond.members beyond.fault)
+      subst (λ (o : Option (Member Feature)). bytes_in (take (suc count) lines) ≤ bytes_up_to lines (last_line_needed o fault)) (sym same) (reaches_least (given ++ extra) rest fault lines count beyond.members beyond.fault)
 
 module _ (order : Order) where
   -- at the start

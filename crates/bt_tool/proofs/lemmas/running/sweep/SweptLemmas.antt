@@ -19,14 +19,14 @@ use Rattle.bt_bed.specs.declared.read.batch.Batch.{Batch}
 use Rattle.bt_bed.specs.declared.order.ChromOrder.{Ghosts}
 use Rattle.bt_bed.specs.declared.read.records.Records.{Records}
 use Rattle.bt_bed.proofs.lemmas.order.OrderLemmas.{sorted_up_to, grows_placed, last_of-push}
-use Rattle.bt_sweep.specs.calls.Sweeping.{AdvancesOn, Settles, ComesNext, Sweeping, AdvancesSo, FailsAt, PutsEach, stage_after, AreDecided, CannotBeHeld, TakenEach, has_room, IsInOrder, MovesTo, StandsAt, phase_of, is_over as is_done, want_in, want_of}
+use Rattle.bt_sweep.specs.calls.Sweeping.{AdvancesOn, Settles, ComesNext, Sweeping, AdvancesSo, FailsAt, PutsEach, stage_after, AreDecided, CannotBeHeld, TakenEach, has_room, IsInOrder, MovesTo, StandsAt, phase_of, phase_is_over as is_done, want_in, want_of}
 use Rattle.bt_bed.specs.calls.Stage.{given, Stage, with_first_ended, with_second_ended}
 use Rattle.bt_sweep.specs.calls.SweepView.{state_of}
 use Rattle.bt_sweep.specs.model.Hits.{decided, held_for, is_held}
 use Rattle.bt_sweep.specs.declared.sweep.state.Phase.{Phase}
 use Rattle.bt_sweep.proofs.lemmas.sweep.KeepLemmas.{decided_before, undecided_beside}
 use Rattle.bt_tool.specs.inside.Pair.{item_ahead, IsKnown, JoinDef, Pair, SettlesPair, Comes, AsksFor, PairEnds}
-use Rattle.bt_tool.specs.inside.Feed.{HasTaken, ConsumesGiven, member_items, Passes, StopsAfter}
+use Rattle.bt_tool.specs.inside.Feed.{HasTaken, ConsumesGiven, member_items, PassesMembers, StopsAfter}
 use Rattle.bt_tool.proofs.lemmas.running.pair.PairNear.{first_then, line_then}
 use Rattle.bt_tool.proofs.lemmas.running.members.PassedLemmas.{last_up_to, is_filled, is_over, is_stopped, said_in_order}
 use Rattle.bt_lines.specs.model.Fault.{FaultValue}
@@ -167,10 +167,10 @@ module _ {A B O : Type 0} {g : Ghosts O} {source_a : Source A} {source_b : Sourc
   wrong_second state line kind e = inl (wrong_bed state line kind e)
 
   -- what was passed of either is in order
-  first_placed : (past : List (Member Feature)) (now : MemberReader A Feature (Option Locus)) → Passes source_a (view_of old_first) past now → ArePlaced order (intervals_of (member_items past))
+  first_placed : (past : List (Member Feature)) (now : MemberReader A Feature (Option Locus)) → PassesMembers source_a (view_of old_first) past now → ArePlaced order (intervals_of (member_items past))
   first_placed past now p = grind (arith, said_in_order)
 
-  second_placed : (past : List (Member Feature)) (now : MemberReader B Feature (Option Locus)) → Passes source_b (view_of old_second) past now → ArePlaced order (intervals_of (member_items past))
+  second_placed : (past : List (Member Feature)) (now : MemberReader B Feature (Option Locus)) → PassesMembers source_b (view_of old_second) past now → ArePlaced order (intervals_of (member_items past))
   second_placed past now p = grind (arith, said_in_order)
 
   -- with the member ahead too many would be held

@@ -2,7 +2,7 @@ use Rattle.bt_lines.proofs.Std.{[], ◌≡◌, ◌∙◌, false, true, arith, re
 use Rattle.bt_bed.specs.calls.GenomeTable.{entries}
 use Rattle.bt_runs.specs.inside.Coverage.{seen}
 use Rattle.bt_runs.specs.calls.Covering.{Covering}
-use Rattle.bt_runs.specs.inside.Walk.{is_on}
+use Rattle.bt_runs.specs.inside.Walk.{is_reached}
 use Rattle.bt_runs.proofs.lemmas.coverage.DepthSteps.{enters_failing, enters_moved, enters_there, is_there}
 use Rattle.bt_runs.proofs.lemmas.order.ByChromosome.{found_at, length_read, name_read}
 use Rattle.bt_runs.proofs.coverage.depth_rule.DepthRuleRule.enter.Goals as goal
@@ -25,7 +25,7 @@ returns-in_err-put_before-clause-enters g c =
     let p = err_from_is_err_and c.from_residual.result c.from_residual.ensures.1 in
     let m = c.self.inside in
     let old : Covering = record { entries = entries m.chroms.genome.now; zeros = m.chroms.zeros; strand = m.strand; current = seen m.current m.held; is_known = m.is_known; name = m.name.now; length = m.length } in
-    let off : is_on old.entries old.current c.args.chrom.now ≡ false = elim c.match-self.branch [
+    let off : is_reached old.entries old.current c.args.chrom.now ≡ false = elim c.match-self.branch [
       | in-Some+else-is_same_name w ↦ rw (w.in-Some.is, name_read old.entries w.in-Some.reached.rank w.name-name.result.now w.name-name.ensures) (sym w.is_same_name.ensures ∙ w.if-is_same_name.false)
       | in_default w ↦ rw (w.in_default.is) refl
     ] in
@@ -35,7 +35,7 @@ pub returns-clause-on : goal.returns-clause-on
 returns-clause-on g c =
     let m = c.self.inside in
     let old : Covering = record { entries = entries m.chroms.genome.now; zeros = m.chroms.zeros; strand = m.strand; current = seen m.current m.held; is_known = m.is_known; name = m.name.now; length = m.length } in
-    let off : is_on old.entries old.current c.args.chrom.now ≡ false = elim c.match-self.branch [
+    let off : is_reached old.entries old.current c.args.chrom.now ≡ false = elim c.match-self.branch [
       | in-Some+else-is_same_name w ↦ rw (w.in-Some.is, name_read old.entries w.in-Some.reached.rank w.name-name.result.now w.name-name.ensures) (sym w.is_same_name.ensures ∙ w.if-is_same_name.false)
       | in_default w ↦ rw (w.in_default.is) refl
     ] in
@@ -45,7 +45,7 @@ pub returns-clause-enters : goal.returns-clause-enters
 returns-clause-enters g c =
     let m = c.self.inside in
     let old : Covering = record { entries = entries m.chroms.genome.now; zeros = m.chroms.zeros; strand = m.strand; current = seen m.current m.held; is_known = m.is_known; name = m.name.now; length = m.length } in
-    let off : is_on old.entries old.current c.args.chrom.now ≡ false = elim c.match-self.branch [
+    let off : is_reached old.entries old.current c.args.chrom.now ≡ false = elim c.match-self.branch [
       | in-Some+else-is_same_name w ↦ rw (w.in-Some.is, name_read old.entries w.in-Some.reached.rank w.name-name.result.now w.name-name.ensures) (sym w.is_same_name.ensures ∙ w.if-is_same_name.false)
       | in_default w ↦ rw (w.in_default.is) refl
     ] in

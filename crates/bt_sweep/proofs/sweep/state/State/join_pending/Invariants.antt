@@ -1,6 +1,6 @@
 use Rattle.bt_lines.proofs.Std.{◌≡◌, Some, None}
 use Rattle.bt_bed.specs.calls.Orders.{IsTotal}
-use Rattle.bt_sweep.specs.inside.Joining.{AreDecidedOn, JoinsSo, LeavesOn, IsQuiet, line_in, lines_pending}
+use Rattle.bt_sweep.specs.inside.Joining.{AreDecidedOn, JoinsSo, LeavesOn, FitsShape, line_in, lines_pending}
 use Rattle.bt_sweep.proofs.sweep.state.State.join_pending.Given as goal
 
 abbrev pub invariant-loop-next : goal.invariant-loop-next
@@ -9,7 +9,7 @@ invariant-loop-next g l = record {
   phase : l.self.phase ≡ l.fn.self.phase;
   on : g.A.Cursor.name l.firsts.cursor ≡ g.A.Cursor.name l.fn.firsts.cursor;
   line : line_in (g.A.Cursor.consumed l.firsts.cursor) l.firsts.to ≡ g.A.Record.Record.raw l.current;
-  quiet : IsQuiet l.self.shape (lines_pending l.firsts);
+  quiet : FitsShape l.self.shape (lines_pending l.firsts);
   beside : g.B.Cursor.name l.ahead ≡ g.B.Cursor.name l.fn.seconds;
   same : l.ahead ≡ l.seconds;
   going : (j : JoinsSo g.A.Cursor g.B.Cursor IsTotal (AreDecidedOn (g.A.Record.Record.feature l.fn.first).chrom)

@@ -1,5 +1,5 @@
 use Rattle.bt_lines.proofs.Std.{◌≡◌, Some, None}
-use Rattle.bt_sweep.specs.inside.Joining.{WritesSo, IsQuiet, line_in, lines_pending}
+use Rattle.bt_sweep.specs.inside.Joining.{WritesSo, FitsShape, line_in, lines_pending}
 use Rattle.bt_sweep.proofs.sweep.state.State.write_up_to.Given as goal
 
 abbrev pub invariant-loop-self : goal.invariant-loop-self
@@ -8,7 +8,7 @@ invariant-loop-self g l = record {
   phase : l.self.phase ≡ l.fn.self.phase;
   on : g.A.Cursor.name l.firsts.cursor ≡ g.A.Cursor.name l.fn.firsts.cursor;
   line : line_in (g.A.Cursor.consumed l.firsts.cursor) l.firsts.to ≡ g.A.Record.Record.raw l.given;
-  quiet : IsQuiet l.self.shape (lines_pending l.firsts);
+  quiet : FitsShape l.self.shape (lines_pending l.firsts);
   going : WritesSo g.A.Cursor l.fn.place l.fn.self (g.A.Record.Record.feature l.fn.first) l.fn.firsts.cursor
       (lines_pending l.fn.firsts) l.fn.out.output
       (Some (g.A.Record.Record.feature l.given)) l.self l.firsts.cursor
