@@ -8,7 +8,7 @@ use std::os::unix::fs::MetadataExt;
 // The name by which the system knows what standard input reads.
 const STANDARD_INPUT: &str = "/dev/stdin";
 
-// The same on Linux if there is no `/dev`, as in some containers.
+// Its name on Linux if there is no `/dev`, as in some containers.
 const FIRST_DESCRIPTOR: &str = "/proc/self/fd/0";
 
 /// Whether a name leads to a regular file that is an input of the plan, as by a link or another spelling.
@@ -63,7 +63,7 @@ impl FileIdentity {
         }
     }
 
-    // The same of an input that the plan may not have.
+    // Whether it is read as an input that the plan may lack.
     fn is_read_if_named(self, rt: &HostRuntime, name: &Option<String>) -> bool {
         match name {
             Some(name) => self.is_read_as(rt, name.as_str()),

@@ -63,7 +63,7 @@ fault_past table at items words =
     let read = length (words_spelled items) in
     bad_word_fault table (at + read) (drop read words)
 
--- the same past the items into which the words divide
+-- the fault of the first word past the items into which the words divide
 unfoldable pub word_fault : Table → ℕ → List Word → Option Usage
 word_fault table at words = fault_past table at (items_of table words) words
 

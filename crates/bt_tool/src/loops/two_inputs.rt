@@ -23,7 +23,7 @@ pub(crate) trait TwoInputEngine {
         requires { definition.wants self.old ≡ Want.A }
         ensures { (grown : Output) → FillsWanted definition self.old grown result self.new grown };
 
-    // The same of the second input. At its end the engine may write.
+    // Buffers some of the second input, or gives the engine its end, at which it may write.
     fn fill_second<K: Sink>(&mut self, out: &mut Out<K>) -> Result<(), Fault>
         requires { definition.wants self.old ≡ Want.B }
         ensures { FillsWanted definition self.old out.old.output result self.new out.new.output };

@@ -55,7 +55,7 @@ const CASES: [&str; 44] = [
     "merge -g - -i stdin -i a => Merge { d: 0, strand: All } genome=- first=a",
 ];
 
-// The same for genomecov, without the command.
+// Words after `genomecov`, and their plans.
 const COVERAGE: [&str; 19] = [
     "-g g => bedtools: required option missing",
     "-g g -strand + => bedtools: required option missing",
@@ -80,7 +80,7 @@ const COVERAGE: [&str; 19] = [
      Coverage { zeros: true, strand: Some(Plus) } genome=g first=stdin",
 ];
 
-// The same for bamtobed.
+// Words after `bamtobed`, and their plans.
 const BAM_TO_BED: [&str; 9] = [
     "=> BamToBed { split: false, cigar: false } first=stdin",
     "-split -i a.sam -cigar => BamToBed { split: true, cigar: true } first=a.sam",
@@ -93,7 +93,7 @@ const BAM_TO_BED: [&str; 9] = [
     "-cigar -i '' => bedtools: bad value: -i",
 ];
 
-// The same for maskfasta.
+// Words after `maskfasta`, and their plans.
 const MASK_FASTA: [&str; 23] = [
     "=> bedtools: required option missing",
     "-fi a => bedtools: required option missing",

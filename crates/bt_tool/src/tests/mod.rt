@@ -133,7 +133,7 @@ pub(crate) fn run_words(
     answer_of(alloc, &plan, &ended.outcome, ended.out.taken())
 }
 
-// The same with GENOME and this first input, all at once.
+// Runs the words with GENOME and this first input, each read at once.
 pub(crate) fn run_on(alloc: Global, words: &[&str], first: &[u8]) -> Result<Answer, Fail> {
     let devices = Devices {
         genome: (GENOME, whole(8192)),

@@ -32,7 +32,7 @@ const INTERSECT: [&str; 24] = [
     "-a - -b y -g g -c => Intersect Count f=0 genome=g first=- second=y",
 ];
 
-// The same for what makes a hit.
+// Plans of intersect by the options that say what a hit is.
 const RULES: [&str; 19] = [
     "-a x -b y -g g -f 1.5 => bedtools: bad value: -f",
     "-a x -b y -g g -f 0.5000000000 => bedtools: bad value: -f",
@@ -55,7 +55,7 @@ const RULES: [&str; 19] = [
     "-a x -b y -held 3 -held 999999999999 => Intersect Cut f=0 held=999999999999 first=x second=y",
 ];
 
-// The same for subtract.
+// Plans of subtract.
 const SUBTRACT: [&str; 18] = [
     "-a x => bedtools: required option missing",
     "-b x -g g => bedtools: required option missing",
