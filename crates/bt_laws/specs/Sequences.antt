@@ -78,7 +78,7 @@ operations_are_divided =
 -- what the first records of the second input make of the lines
 abbrev pub early_mask_rule : MaskHow → List Feature → Rule SequenceLine ℕ FaultValue
 early_mask_rule how records = record {
-  line_decided = λ line. line_decided line records;
+  decided = λ line. line_decided line records;
   lines = masked_line how records;
   fault = None;
   last = None;

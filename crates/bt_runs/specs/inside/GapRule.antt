@@ -53,5 +53,5 @@ gap_rule = record {
   engine = complementing;
   lines = next_gap_lines;
   has = λ old r new. new ≡ complement_with old r;
-  is_reached = StandsOnChrom;
+  is_on = StandsOnChrom;
 }

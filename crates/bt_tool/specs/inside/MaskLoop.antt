@@ -45,7 +45,7 @@ AreOwned lines records = is_some (left_after (names_of_sequences lines) records)
 -- what masking makes of a line by records
 abbrev pub mask_join : MaskHow → JoinDef SequenceLine Feature
 mask_join how = record {
-  line_decided = line_decided;
+  decided = line_decided;
   bytes = λ line records. masked_line how records line;
   limited = λ lines second. second;
   Fits = λ lines members. ⊤;
