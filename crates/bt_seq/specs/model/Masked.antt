@@ -226,7 +226,7 @@ no_sequence names members =
 -- end its first block without a sequence is reported, before its fault.
 abbrev pub mask_rule : MaskHow → List (List ℕ) → Good Feature → Rule SequenceLine ℕ FaultValue
 mask_rule how names second = record {
-  line_decided = λ line. is_none second.fault || line_decided line (items_in second);
+  decided = λ line. is_none second.fault || line_decided line (items_in second);
   lines = masked_line how (items_in second);
   fault = second.fault;
   last = or_else (no_sequence names second.members) second.fault;
