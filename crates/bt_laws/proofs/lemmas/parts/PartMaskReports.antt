@@ -69,11 +69,8 @@ module _ (how : MaskHow) (full : Bool) where
     pub lines : (F texts.first).fault ≡ None
     pub lost : leave (Some (N texts.first)) None (R texts.second) ≡ None
 
-  lacks_one : (texts : Texts) → Lacks texts → (line : SequenceLine) → (more : List (List ℕ)) × (N texts.first ≡ line.names ++ more) → (rule_on texts).decided line ≡ true
-  lacks_one texts lacks line begins = grind (arith, decided_by_tags, any_lost)
-
   lacks_decided : (texts : Texts) → Lacks texts → list_all (rule_on texts).decided (items_in (F texts.first)) ≡ true
-  lacks_decided texts lacks = grind (arith, all_true, all_so, lacks_one, (names_begin full First (text_lines texts.first)))
+  lacks_decided texts lacks = grind (arith, all_true, all_so, names_begin, decided_by_tags, any_lost)
 
   -- then all lines are written
   lacks_output : (texts : Texts) → Lacks texts → (report_on texts).output ≡ flat_map (masked_line how (R texts.second)) (items_in (F texts.first))
@@ -162,14 +159,7 @@ module _ (how : MaskHow) (full : Bool) where
 
         -- the second part lacks a sequence: so does the whole
         both_lack : Lacks two → Lacks both
-        both_lack lacks = record {
-          lines = (lines_of_both lines).1;
-          lost = ap₂ (λ names records. leave (Some names) None records) (names_of_both lines) joint.0 ∙ by_records (R two.second) lost lacks.lost;
-        }
-          where
-            by_records : (twos : List Feature) → IsLost (N one.first) (R one.second) twos → leave (Some (N two.first)) None twos ≡ None → leave (Some (N one.first ++ N two.first)) None (R one.second ++ twos) ≡ None
-            by_records [] lost e = cc
-            by_records (r ∷ rs) lost e = later_leave (N one.first) rest (R one.second) kept (N two.first) r rs lost ∙ e
+        both_lack lacks = grind (arith, lines_of_both, leave, names_of_both, joint, later_leave)
 
         both_lines : Lacks two → (report_on both).output ≡ (report_on one).output ++ (report_on two).output
         both_lines lacks = lacks_output both (both_lack lacks) ∙ all_lines ∙ sym (ap₂ (λ a b. a ++ b) first_output (lacks_output two lacks))
@@ -241,13 +231,8 @@ module _ (how : MaskHow) (full : Bool) where
         whole_sound : IsSound (F two.first) (B two.second) → IsSound (F (one.first ++ two.first)) (B (one.second ++ two.second))
         whole_sound second = grind (arith, lines_of_both, joint, none_of_both, names_of_both, both_owned)
 
-        either : (g : Option FaultValue) → (B two.second).fault ≡ g → (ts : List Feature) → R two.second ≡ ts → (rest : List ℕ) × ((report_on one).output ++ (report_on two).output ≡ (report_on both).output ++ rest)
-        either None e ts is = ([], sym (no_fault e) ∙ sym (append-nil (report_on both).output))
-        either (Some fault) e (r ∷ rs) is = ([], sym (past_first r rs is) ∙ sym (append-nil (report_on both).output))
-        either (Some fault) e [] is = before_second fault e is
-
         pub stops_sound : (report_on one).fault ≡ None → Stops (report_on one) (report_on two) (report_on both)
-        stops_sound none = grind (arith, (either (B two.second).fault refl (R two.second) refl))
+        stops_sound none = grind (arith, no_fault, append-nil, past_first, before_second)
 
     -- both parts are sound
     both_sound : IsSound (F one.first) (B one.second) → IsSound (F two.first) (B two.second) → IsLost (N one.first) (R one.second) (said_records two.second)

@@ -20,7 +20,6 @@ use Rattle.bt_runs.proofs.lemmas.Lists.{EachPair, all_any, all_filter, all_flat_
 use Rattle.bt_laws.proofs.lemmas.pipes.LinesBack.{Columns, IsColumns, text_of_columns, placed_known, written_back, record_back, IsSaid, IsChrom, clear_tab, clear_number, strip_number}
 use Rattle.bt_laws.proofs.lemmas.pipes.Placing.{AreInOrder, AreSpread, Earlier, apart_spread, ascending_pairs, known_names, names_pairs, pairs_filter, pairs_from_map, spans_in_order}
 use Rattle.bt_laws.proofs.lemmas.parts.PartMerge.{named_all, listed_all}
-use Rattle.bt_lines.specs.model.Lines.{pieces}
 use Rattle.bt_bed.specs.model.Genome.{Entry, genome_names}
 use Rattle.bt_bed.specs.inside.RankTotal.{ranks_total}
 use Rattle.bt_bed.specs.model.Levels.{AreDisjointFrom, HasValue, Level}
@@ -64,11 +63,8 @@ depth_columns r is = grind (arith, (clear_tab (decimal r.depth) (clear_number r.
 depth_as : (r : DepthInterval) → depth_line r ≡ text_of_columns (with_depth r) ++ 10 ∷ []
 depth_as r = simp append_assoc
 
-one_column : (n : ℕ) → pieces 9 (decimal n) ≡ decimal n ∷ []
-one_column n = slice_split_none (λ b. eqb b 9) (decimal n) (number_column n)
-
 depth_back : (r : DepthInterval) → record_back (with_depth r) ≡ four_columns r
-depth_back r = grind (arith, strip_number, one_column)
+depth_back r = grind (arith, strip_number, slice_split_none, number_column)
 
 module _ (order : Order) (total : IsTotal order) where
   depth_lines_back : (rs : List DepthInterval) → AllByRecursion (λ r. IsWritten (interval_at r)) rs → ArePlaced order (map interval_at rs) → IsInput order (depth_lines rs) (filter is_no_header (map four_columns rs))

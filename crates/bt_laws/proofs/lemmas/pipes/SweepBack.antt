@@ -98,9 +98,6 @@ module _ (shape : Shape) (rule : HitRule) (second : List Feature) where
 clear_record : (b : Feature) → IsSaid b → NoLineFeed (bed_text b)
 clear_record b is = tail_clear b.chrom b.start b.stop is.feature.named is.feature.non_empty is.feature.in_range b.rest is.clear_name is.clear_rest
 
-said_columns : (a : Feature) (start stop : ℕ) (more : List ℕ) → IsSaid a → start < stop → stop ≤ a.stop → IsTrue (is_kept more) → NoLineFeed more → IsColumns (columns_at (cut_to start stop a) more)
-said_columns a start stop more is below up kept clear = grind arith
-
 abbrev pub Hit : HitRule → Feature → Feature → Type 0
 Hit rule a b = IsSaid b × (hits rule a b ≡ true)
 
@@ -112,7 +109,7 @@ same_name rule a b h = (bytes_decides a.chrom b.chrom).0 (overlap_parts a b (hit
 
 module _ (rule : HitRule) (a : Feature) (is : IsSaid a) where
   cut_columns : (b : Feature) (more : List ℕ) → Hit rule a b → IsTrue (is_kept more) → NoLineFeed more → IsColumns (columns_at (cut a b) more)
-  cut_columns b more hit kept clear = said_columns a (max a.start b.start) (min a.stop b.stop) more is (cut_bounds rule a b hit.1) (omega arith) kept clear
+  cut_columns b more hit kept clear = grind (arith, cut_bounds)
 
   hit_is : (shape : Shape) (b : Feature) → Hit rule a b → IsColumns (hit_columns shape a b)
   unfolding hit_columns
