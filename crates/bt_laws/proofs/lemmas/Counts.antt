@@ -287,7 +287,8 @@ module _ (bs : List Feature) where
   one_of : (a : Feature) (p : ℕ) → a.start ≤ p → p < a.stop → IsCovered (cuts a) p ⊎ IsCovered (lefts a) p
   one_of a p from to = grind (arith, (cases_Bool (is_covered (spans_of (hits_among any_overlap a bs)) p)), covered_cut, (is_covered-Decides (spans_of (hits_among any_overlap a bs)) p), (are_pieces a (hits_among any_overlap a bs)), false≢true)
 
-  each_at : (name : List ℕ) (p : ℕ) (as_read : List Feature) → Some_of (CoversOn name p) as_read → Some_of (HasAt cuts name p) as_read ⊎ Some_of (HasAt lefts name p) as_read
+  each_at : (name : List ℕ) (p : ℕ) (as_read : List Feature) → Some_of (CoversOn name p) as_read
+      → Some_of (HasAt cuts name p) as_read ⊎ Some_of (HasAt lefts name p) as_read
   each_at name p [] w = absurd w
   each_at name p (a ∷ more) (inl w) = elim (one_of a p w.1 w.2) [ inl c ↦ inl (inl (w.0, c)) | inr c ↦ inr (inl (w.0, c)) ]
   each_at name p (a ∷ more) (inr w) = elim (each_at name p more w) [ inl c ↦ inl (inr c) | inr c ↦ inr (inr c) ]

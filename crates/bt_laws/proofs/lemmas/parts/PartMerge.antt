@@ -134,7 +134,12 @@ module _ (gap : ℕ) where
     -- no record of the first part lies in a run of the second
     none_first : (strand : Strand) → AllByRecursion (λ item. AllByRecursion (λ r. is_in item r ≡ false) ones) (runs_of_strand gap twos strand)
     none_first strand =
-        all_swapped (λ r item. is_in item r ≡ false) ones (runs_of_strand gap twos strand) (all_so (λ r. has_records r.chrom (intervals_of twos) ≡ false) (λ r. AllByRecursion (λ item. is_in item r ≡ false) (runs_of_strand gap twos strand)) ones (λ r e. all_so (Elsewhere r.chrom) (λ item. is_in item r ≡ false) (runs_of_strand gap twos strand) (λ item out. not_in item r out) (items_elsewhere r.chrom twos strand e)) (all_unmap _ interval_of ones away.first))
+        all_swapped (λ r item. is_in item r ≡ false) ones (runs_of_strand gap twos strand)
+        (all_so (λ r. has_records r.chrom (intervals_of twos) ≡ false)
+        (λ r. AllByRecursion (λ item. is_in item r ≡ false) (runs_of_strand gap twos strand)) ones
+        (λ r e. all_so (Elsewhere r.chrom) (λ item. is_in item r ≡ false) (runs_of_strand gap twos strand) (λ item out. not_in item r out)
+        (items_elsewhere r.chrom twos strand e))
+        (all_unmap _ interval_of ones away.first))
 
     begun_second : (before : List Feature) (r : Feature) → has_records r.chrom (intervals_of ones) ≡ false → begun_by (runs_of_strand gap (ones ++ twos) r.strand) (ones ++ before) r ≡ begun_by (runs_of_strand gap twos r.strand) before r
     begun_second before r e =

@@ -112,7 +112,8 @@ module _ (command : Command) (shape : Shape) (rule : HitRule)
       all_both _ (said_records shard.texts.first) (said_records shard.texts.second) (lies shard.entries whole First shard.texts.first none.0) (lies shard.entries whole Second shard.texts.second none.1)
 
   pairs_suffice : PairShardsSuffice command
-  pairs_suffice genome shards are all = grind (arith, own_parts, (all_zip _ _ _ shards (λ shard has e. pair_lies (pair_entries shards) shard has e) are.parts (all_unmap _ _ shards all)))
+  pairs_suffice genome shards are all =
+      grind (arith, own_parts, (all_zip _ _ _ shards (λ shard has e. pair_lies (pair_entries shards) shard has e) are.parts (all_unmap _ _ shards all)))
 
 pub intersect_genome_parts : intersect_genomes_divide
 intersect_genome_parts shape rule = own_parts (Intersect shape rule None) shape rule (λ genome entries has. intersect_is (Some genome) (Some entries) has shape rule)
@@ -132,7 +133,9 @@ pub genomecov_suffice : genomecov_shards_suffice
 genomecov_suffice zeros strand = shards_suffice (λ entries. coverage_written entries zeros strand) (Coverage zeros strand) (λ entries first. refl) (genomecov_parts zeros strand)
 
 pub intersect_suffice : intersect_shards_suffice
-intersect_suffice shape rule = pairs_suffice (Intersect shape rule None) shape rule (λ genome entries has. intersect_is (Some genome) (Some entries) has shape rule)
+intersect_suffice shape rule =
+    pairs_suffice (Intersect shape rule None) shape rule (λ genome entries has. intersect_is (Some genome) (Some entries) has shape rule)
 
 pub subtract_suffice : subtract_shards_suffice
-subtract_suffice whole rule = pairs_suffice (Subtract whole rule None) (subtract_shape whole) rule (λ genome entries has. subtract_is (Some genome) (Some entries) has whole rule)
+subtract_suffice whole rule =
+    pairs_suffice (Subtract whole rule None) (subtract_shape whole) rule (λ genome entries has. subtract_is (Some genome) (Some entries) has whole rule)

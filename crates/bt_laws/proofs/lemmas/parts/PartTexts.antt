@@ -298,4 +298,5 @@ pub repeated_divide : repeated_names_divide
 repeated_divide how full parts lines headers none all =
     let sound = all_unmap _ (report_on how full) parts (rw (on_is how full parts) at all) in
     let whole = suffice_all how full parts (record { fit = record { lines = lines; headers = headers }; none = none }) sound in
-    rw (on_is how full parts, mask_is how full (joined_texts parts)) (whole.0, whole.1 ∙ sym (flat_map-map (λ (part : Report). part.output) (report_on how full) parts))
+    rw (on_is how full parts, mask_is how full (joined_texts parts))
+    (whole.0, whole.1 ∙ sym (flat_map-map (λ (part : Report). part.output) (report_on how full) parts))

@@ -184,7 +184,8 @@ module _ (order : Order) (total : IsTotal order) where
     pub merge_in_order : AreInOrder order AreSeparate (ordered_runs order gap strand records)
     unfolding ordered_runs merged names
     merge_in_order =
-        spans_in_order order total AreSeparate 1 far_separate (λ name. name) (λ name. runs_of gap (spans_on name (counted strand records))) names known_in_order names_earlier
+        spans_in_order order total AreSeparate 1 far_separate (λ name. name)
+        (λ name. runs_of gap (spans_on name (counted strand records))) names known_in_order names_earlier
         (all_any _ names (λ name. (runs_within gap (spans_on name (counted strand records))).spread))
 
     pub merge_runs : AllByRecursion IsRun (ordered_runs order gap strand records)
@@ -244,9 +245,13 @@ module _ (entries : List Entry) (chroms : AllByRecursion IsChrom entries) (disti
 
     gaps_written : AllByRecursion IsWritten (complement limit entries records)
     unfolding complement
-    gaps_written = all_flat_map IsWritten (gaps_on (intervals_of records)) (filter asked entries)
-        (all_filter (λ e. AllByRecursion IsWritten (gaps_on (intervals_of records) e)) asked entries (all_so IsChrom (λ e. AllByRecursion IsWritten (gaps_on (intervals_of records) e)) entries
-        (λ e is. on_written e.name e.length (gap_spans e) is.named is.clear is.small (gaps_within e.length (spans_on e.name (intervals_of records))).within) chroms))
+    gaps_written =
+        let Written : Entry → Type 0 = λ e. AllByRecursion IsWritten (gaps_on (intervals_of records) e) in
+        all_flat_map IsWritten (gaps_on (intervals_of records)) (filter asked entries) (all_filter Written asked entries (all_so IsChrom Written entries
+        (λ e is.
+        let within = (gaps_within e.length (spans_on e.name (intervals_of records))).within in
+        on_written e.name e.length (gap_spans e) is.named is.clear is.small within)
+        chroms))
 
     pub gaps_back : IsInput file_order (interval_lines (complement limit entries records)) (filter is_no_header (map three_columns (complement limit entries records)))
     gaps_back = intervals_back file_order file_total (complement limit entries records) gaps_written gaps_in_order.placed
@@ -275,5 +280,8 @@ module _ (entries : List Entry) (chroms : AllByRecursion IsChrom entries) (disti
         (all_flat_map IsWritten depth_places entries (all_so IsChrom (λ e. AllByRecursion IsWritten (depth_places e)) entries
         (λ e is. on_written e.name e.length (depth_spans e) is.named is.clear is.small (levels_within (depths_at e) e.length).within) chroms))
 
-    pub coverage_back : IsInput file_order (depth_lines (coverage zeros strand entries records)) (filter is_no_header (map four_columns (coverage zeros strand entries records)))
-    coverage_back = depth_lines_back file_order file_total (coverage zeros strand entries records) (all_unmap IsWritten interval_at (coverage zeros strand entries records) depths_written) depths_in_order.placed
+    pub coverage_back : IsInput file_order (depth_lines (coverage zeros strand entries records))
+        (filter is_no_header (map four_columns (coverage zeros strand entries records)))
+    coverage_back =
+        depth_lines_back file_order file_total (coverage zeros strand entries records)
+        (all_unmap IsWritten interval_at (coverage zeros strand entries records) depths_written) depths_in_order.placed

@@ -238,9 +238,16 @@ module _ (order : Order) (total : IsTotal order) where
 
   part_rises : (shape : Shape) (a : Feature) (found : List Feature) → begins_with_a shape ≡ false → EachPair Rise found → EachPair (LineUpTo order total) (columns_for shape a found)
   unfolding columns_for hit_columns piece_columns
-  part_rises Cut a found e h = pairs_map (LineUpTo order total) (hit_columns Cut a) found (pairs_weaker Rise (λ b c. LineUpTo order total (hit_columns Cut a b) (hit_columns Cut a c)) found (λ b c up. inr (refl, omega (arith, up))) h)
-  part_rises CutAndB a found e h = pairs_map (LineUpTo order total) (hit_columns CutAndB a) found (pairs_weaker Rise (λ b c. LineUpTo order total (hit_columns CutAndB a b) (hit_columns CutAndB a c)) found (λ b c up. inr (refl, omega (arith, up))) h)
-  part_rises Pieces a found e h = pairs_map (LineUpTo order total) (piece_columns a) (pieces a found) (pairs_weaker (IsBehind 1) (λ s t. LineUpTo order total (piece_columns a s) (piece_columns a t)) (pieces a found) (λ s t up. inr (refl, omega (arith, up.0, up.1))) (pieces_behind a found))
+  part_rises Cut a found e h =
+      pairs_map (LineUpTo order total) (hit_columns Cut a) found
+      (pairs_weaker Rise (λ b c. LineUpTo order total (hit_columns Cut a b) (hit_columns Cut a c)) found (λ b c up. inr (refl, omega (arith, up))) h)
+  part_rises CutAndB a found e h =
+      pairs_map (LineUpTo order total) (hit_columns CutAndB a) found
+      (pairs_weaker Rise (λ b c. LineUpTo order total (hit_columns CutAndB a b) (hit_columns CutAndB a c)) found (λ b c up. inr (refl, omega (arith, up))) h)
+  part_rises Pieces a found e h =
+      pairs_map (LineUpTo order total) (piece_columns a) (pieces a found)
+      (pairs_weaker (IsBehind 1) (λ s t. LineUpTo order total (piece_columns a s) (piece_columns a t)) (pieces a found)
+      (λ s t up. inr (refl, omega (arith, up.0, up.1))) (pieces_behind a found))
   part_rises _ a found e h = cc
 
   abbrev FollowsApart : Feature → Feature → Type 0
@@ -289,6 +296,7 @@ module _ (order : Order) (total : IsTotal order) where
       (pairs_map AreDisjoint (λ (line : Columns). line.at) cut
       (pairs_flat (λ k l. AreDisjoint k.at l.at) (λ a. map (piece_columns a) (pieces a (hits_among rule a second))) first
       (all_any _ first (λ a. pairs_map (λ k l. AreDisjoint k.at l.at) (piece_columns a) (pieces a (hits_among rule a second))
-      (pairs_weaker (IsBehind 1) (λ s t. AreDisjoint (piece_columns a s).at (piece_columns a t).at) (pieces a (hits_among rule a second)) (λ s t up same. omega (arith, up.1)) (pieces_behind a (hits_among rule a second)))))
+      (pairs_weaker (IsBehind 1) (λ s t. AreDisjoint (piece_columns a s).at (piece_columns a t).at) (pieces a (hits_among rule a second))
+      (λ s t up same. omega (arith, up.1)) (pieces_behind a (hits_among rule a second)))))
       (cross_all order total (cut_part Pieces rule first second said said_second placed placed_second apart refl) IsWithin FollowsApart first (all_within Pieces rule first second said said_second placed placed_second apart refl)
       (follow_apart Pieces rule first second said said_second placed placed_second apart refl) (λ k l. AreDisjoint k.at l.at) cross_apart)))

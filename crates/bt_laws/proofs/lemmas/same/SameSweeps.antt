@@ -131,7 +131,8 @@ hit_some : (a : Feature) (bs : List Feature) (p : ℕ) → IsCovered (spans_of (
 hit_some a [] p c = absurd c
 hit_some a (b ∷ bs) p c = grind (arith, (hit_some a bs p), (cases_Bool (hits any_overlap a b)), (same_name any_overlap a b))
 
-some_hit : (a : Feature) (bs : List Feature) (p : ℕ) → a.start ≤ p → p < a.stop → Some_of (CoversOn a.chrom p) bs → IsCovered (spans_of (hits_among any_overlap a bs)) p
+some_hit : (a : Feature) (bs : List Feature) (p : ℕ) → a.start ≤ p → p < a.stop → Some_of (CoversOn a.chrom p) bs
+    → IsCovered (spans_of (hits_among any_overlap a bs)) p
 some_hit a [] p from to w = absurd w
 some_hit a (b ∷ bs) p from to (inl w) = grind (arith, any_hits)
 some_hit a (b ∷ bs) p from to (inr w) = grind (arith, (some_hit a bs p from to w))

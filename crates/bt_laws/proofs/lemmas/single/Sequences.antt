@@ -60,7 +60,11 @@ module _ {A : Type 0} where
   last_first : (more rest : List (List ℕ)) (bs : List (Block A)) (names : List (List ℕ)) → at_last (Some (names ++ more)) bs ≡ Some (rest ++ more) → at_last (Some names) bs ≡ Some rest
   last_first more rest [] names e = grind (arith, append_cancel_right)
   last_first more rest (b ∷ bs) names e =
-      grind (arith, none_at_last, (λ (all : List (List ℕ)) (is : names_behind b.chrom (names ++ more) ≡ Some all) (e : at_last (Some all) bs ≡ Some (rest ++ more)). behind_within b.chrom names more all (omega (arith, last_fewer (rest ++ more) bs all e, length-append rest more)) is), (names_behind b.chrom (names ++ more)), (last_first more rest bs))
+      grind (arith, none_at_last, found, (names_behind b.chrom (names ++ more)), (last_first more rest bs))
+    where
+      found : (all : List (List ℕ)) → names_behind b.chrom (names ++ more) ≡ Some all → at_last (Some all) bs ≡ Some (rest ++ more)
+          → Within b.chrom names more all
+      found all is e = behind_within b.chrom names more all (omega (arith, last_fewer (rest ++ more) bs all e, length-append rest more)) is
 
 pub owners_stay_so : owners_stay
 owners_stay_so names more records rest e = last_more more rest (blocks_by (λ (r : Feature). r.chrom) records) names e
