@@ -8,8 +8,8 @@ use Rattle.bt_bed.specs.calls.Orders.{AreDistinct}
 use Rattle.bt_bed.specs.declared.record.strand.Strand.{Strand}
 use Rattle.bt_bed.proofs.lemmas.parse.NameLemmas.{cases_name, name_eq-sym}
 use Rattle.bt_bed.specs.model.Levels.{Level}
-use Rattle.bt_bed.specs.calls.LevelScan.{Begun, begun_after, ended_after, levels_from, next_begun, next_ended}
-use Rattle.bt_runs.specs.model.Depth.{coverage, covers, depth_at, depth_of, depths_on, is_counted_by, levels_of}
+use Rattle.bt_bed.specs.calls.LevelScan.{Begun, begun_after, ended_after, levels_from, next_begun}
+use Rattle.bt_runs.specs.model.Depth.{coverage, depth_at, depth_of, depths_on, is_counted_by, levels_of}
 use Rattle.bt_runs.specs.calls.Complementing.{length_in}
 use Rattle.bt_runs.proofs.lemmas.order.FileOrder.{spans_on-append}
 use Rattle.bt_bed.proofs.lemmas.LevelScans.{levels_more}
@@ -18,7 +18,7 @@ use Rattle.bt_laws.specs.WholeRuns.{first_records, second_records, RunWrites}
 use Rattle.bt_laws.proofs.lemmas.pipes.PipeLaws.{depth_both, chroms_of, genomecov_whole, intersect_whole, well_there, cut_intersect_input, subtract_input, report_there}
 use Rattle.bt_lines.specs.declared.fault.Input.TheVariants.{First, Second}
 use Rattle.bt_bed.specs.model.Good.{bed_good}
-use Rattle.bt_sweep.specs.model.Hits.{hits, hits_among, is_enough, shared_bases, strands_agree}
+use Rattle.bt_sweep.specs.model.Hits.{hits, hits_among, is_enough, strands_agree}
 use Rattle.bt_sweep.specs.calls.Sweeping.{any_overlap}
 use Rattle.bt_sweep.specs.model.Lines.{intersect, lines_for, pieces}
 use Rattle.bt_sweep.specs.calls.LineLaws.{spans_of}
@@ -68,19 +68,11 @@ just_one v p = grind arith
 sum_one : (l : Level) → sum_by weight (l ∷ []) ≡ weight l
 sum_one l = sum_by-cons weight l [] ∙ omega arith
 
-step_by : (g : Option Begun) (v : Option ℕ) (p t : ℕ) → IsLow g p → sum_by weight (next_ended p v g) + (pending (next_begun p v g) (p + 1) + t) ≡ pending g p + (value_in v + t)
-step_by None None p t low = refl
-step_by None (Some v) p t low = let next = just_one v p in omega (arith, next)
-step_by (Some b) None p t low = let done = sum_one (record { start = b.start; stop = p; value = b.value }) in omega (arith, done)
-step_by (Some b) (Some v) p t low = grind (arith, one_longer)
-
 levels_sum : (value : ℕ → Option ℕ) (n p : ℕ) (g : Option Begun) → IsLow g p → sum_by weight (levels_from value p n g) ≡ pending g p + total (λ q. value_in (value q)) p n
 unfolding total ended_after begun_after
 levels_sum value zero p g low = grind arith
 levels_sum value (suc n) p g low =
-    ap (sum_by weight) (levels_more value p n g) ∙ sum_by-append weight (next_ended p (value p) g) (levels_from value (p + 1) n (next_begun p (value p) g))
-    ∙ ap (λ k. sum_by weight (next_ended p (value p) g) + k) (levels_sum value n (p + 1) (next_begun p (value p) g) (grind arith))
-    ∙ step_by g (value p) p (total (λ q. value_in (value q)) (p + 1) n) low
+    grind (arith, levels_more, sum_by-append, just_one, sum_one, one_longer, (levels_sum value n (p + 1) (next_begun p (value p) g) (grind arith)))
 
 -- ---- depths
 
@@ -100,13 +92,10 @@ depth_value spans q = grind arith
 abbrev one_if : Bool → ℕ
 one_if b = cond b 1 0
 
-span_step : (s : Span) (p n t : ℕ) → t ≡ min s.stop ((p + 1) + n) - max s.start (p + 1) → one_if (covers p s) + t ≡ min s.stop (p + suc n) - max s.start p
-span_step s p n t e = grind arith
-
 span_sum : (s : Span) (n p : ℕ) → total (λ q. depth_at (s ∷ []) q) p n ≡ min s.stop (p + n) - max s.start p
 unfolding total
 span_sum s zero p = omega arith
-span_sum s (suc n) p = grind (arith, span_step, (span_sum s n (p + 1)))
+span_sum s (suc n) p = grind (arith, (span_sum s n (p + 1)))
 
 abbrev below : ℕ → Span → ℕ
 below size s = min s.stop size - s.start
@@ -167,16 +156,13 @@ sum_depths strand inputs entries well =
 
 -- ---- a rule that asks the same of both
 
-shared_swap : (a b : Feature) → shared_bases a b ≡ shared_bases b a
-shared_swap a b = grind (arith, cond, (name_eq-sym a.chrom b.chrom))
-
 enough_swap : (rule : HitRule) (bases : ℕ) (a b : Feature) → IsMutual rule → is_enough rule bases a b ≡ is_enough rule bases b a
 unfolding is_enough
 enough_swap rule bases a b p1 = grind (arith, enough_of_nothing)
 
 hits_swap : (rule : HitRule) (a b : Feature) → IsMutual rule → hits rule a b ≡ hits rule b a
 unfolding hits strands_agree
-hits_swap rule a b even = grind (arith, shared_swap, enough_swap)
+hits_swap rule a b even = grind (arith, enough_swap, name_eq-sym)
 
 -- ---- lists of lists
 
@@ -264,12 +250,9 @@ module _ (S : Feature → List Span) where
     abbrev HasAt : Feature → Type 0
     HasAt a = (a.chrom ≡ name) × IsCovered (S a) p
 
-    at_part : (a : Feature) → IsCovered (spans_on name (part_at a)) p → HasAt a
-    at_part a c = grind (arith, (cases_name a.chrom name), here_all, none_there)
-
     place_some : (as_read : List Feature) → IsCovered (spans_on name (places as_read)) p → Some_of HasAt as_read
     place_some [] c = absurd c
-    place_some (a ∷ more) c = grind (arith, spans_on-append, covered_parts, at_part, (place_some more))
+    place_some (a ∷ more) c = grind (arith, spans_on-append, covered_parts, cases_name, here_all, none_there, (place_some more))
 
     some_place : (as_read : List Feature) → Some_of HasAt as_read → IsCovered (spans_on name (places as_read)) p
     some_place [] w = absurd w
@@ -304,7 +287,8 @@ module _ (bs : List Feature) where
   one_of : (a : Feature) (p : ℕ) → a.start ≤ p → p < a.stop → IsCovered (cuts a) p ⊎ IsCovered (lefts a) p
   one_of a p from to = grind (arith, (cases_Bool (is_covered (spans_of (hits_among any_overlap a bs)) p)), covered_cut, (is_covered-Decides (spans_of (hits_among any_overlap a bs)) p), (are_pieces a (hits_among any_overlap a bs)), false≢true)
 
-  each_at : (name : List ℕ) (p : ℕ) (as_read : List Feature) → Some_of (CoversOn name p) as_read → Some_of (HasAt cuts name p) as_read ⊎ Some_of (HasAt lefts name p) as_read
+  each_at : (name : List ℕ) (p : ℕ) (as_read : List Feature) → Some_of (CoversOn name p) as_read
+      → Some_of (HasAt cuts name p) as_read ⊎ Some_of (HasAt lefts name p) as_read
   each_at name p [] w = absurd w
   each_at name p (a ∷ more) (inl w) = elim (one_of a p w.1 w.2) [ inl c ↦ inl (inl (w.0, c)) | inr c ↦ inr (inl (w.0, c)) ]
   each_at name p (a ∷ more) (inr w) = elim (each_at name p more w) [ inl c ↦ inl (inr c) | inr c ↦ inr (inr c) ]

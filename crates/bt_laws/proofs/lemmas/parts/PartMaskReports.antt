@@ -37,7 +37,8 @@ module _ (mine yours : Rule SequenceLine ℕ FaultValue) (move : SequenceLine �
   written_moved : (xs : List SequenceLine) → AllByRecursion (λ x. (mine.decided (move x) ≡ yours.decided x) × (mine.lines (move x) ≡ yours.lines x)) xs → written mine (map move xs) ≡ written yours xs
   written_moved [] h = refl
   written_moved (x ∷ xs) h =
-      grind (arith, (written_at mine (move x) (map move xs) (mine.decided (move x)) refl), (written_at yours x xs (yours.decided x) refl), (written_moved xs h.1))
+      grind
+      (arith, (written_at mine (move x) (map move xs) (mine.decided (move x)) refl), (written_at yours x xs (yours.decided x) refl), (written_moved xs h.1))
 
 none_written : (rule : Rule SequenceLine ℕ FaultValue) (xs : List SequenceLine) → AllByRecursion (λ x. rule.decided x ≡ false) xs → written rule xs ≡ []
 none_written rule xs h = grind arith
@@ -69,11 +70,8 @@ module _ (how : MaskHow) (full : Bool) where
     pub lines : (F texts.first).fault ≡ None
     pub lost : leave (Some (N texts.first)) None (R texts.second) ≡ None
 
-  lacks_one : (texts : Texts) → Lacks texts → (line : SequenceLine) → (more : List (List ℕ)) × (N texts.first ≡ line.names ++ more) → (rule_on texts).decided line ≡ true
-  lacks_one texts lacks line begins = grind (arith, decided_by_tags, any_lost)
-
   lacks_decided : (texts : Texts) → Lacks texts → list_all (rule_on texts).decided (items_in (F texts.first)) ≡ true
-  lacks_decided texts lacks = grind (arith, all_true, all_so, lacks_one, (names_begin full First (text_lines texts.first)))
+  lacks_decided texts lacks = grind (arith, all_true, all_so, names_begin, decided_by_tags, any_lost)
 
   -- then all lines are written
   lacks_output : (texts : Texts) → Lacks texts → (report_on texts).output ≡ flat_map (masked_line how (R texts.second)) (items_in (F texts.first))
@@ -98,7 +96,8 @@ module _ (how : MaskHow) (full : Bool) where
 
     -- the lines of both, if the first part has no fault
     pub lines_of_both : (F one.first).fault ≡ None
-        → (items_in (F (one.first ++ two.first)) ≡ items_in (F one.first) ++ map (line_after (N one.first)) (items_in (F two.first))) × ((F (one.first ++ two.first)).fault ≡ None)
+        → (items_in (F (one.first ++ two.first)) ≡ items_in (F one.first) ++ map (line_after (N one.first)) (items_in (F two.first)))
+        × ((F (one.first ++ two.first)).fault ≡ None)
     lines_of_both e = grind (arith, (fasta_both full First one.first two.first are.first are.begins))
 
     pub names_of_both : (F one.first).fault ≡ None → N (one.first ++ two.first) ≡ N one.first ++ N two.first
@@ -147,9 +146,12 @@ module _ (how : MaskHow) (full : Bool) where
           (undecided fault (B one.second) e refl (N (one.first ++ two.first))))
 
       -- none is, and no record of the second part belongs to a sequence of it
-      module _ (records : (B one.second).fault ≡ None) (lost : IsLost (N one.first) (R one.second) (R two.second)) (said : IsLost (N one.first) (R one.second) (said_records two.second)) where
+      module _ (records : (B one.second).fault ≡ None) (lost : IsLost (N one.first) (R one.second) (R two.second))
+          (said : IsLost (N one.first) (R one.second) (said_records two.second)) where
         joint : (R (one.second ++ two.second) ≡ R one.second ++ R two.second) × (is_none (B (one.second ++ two.second)).fault ≡ is_none (B two.second).fault)
-        joint = fresh_joint Second one.second two.second are.second records (begins_elsewhere (N one.first) rest (R one.second) kept (said_records two.second) said)
+        joint =
+            fresh_joint Second one.second two.second are.second records
+            (begins_elsewhere (N one.first) rest (R one.second) kept (said_records two.second) said)
 
         first_output : (report_on one).output ≡ flat_map (masked_line how (R one.second)) (items_in (F one.first))
         first_output = sound_output how (F one.first) (B one.second) records
@@ -162,14 +164,7 @@ module _ (how : MaskHow) (full : Bool) where
 
         -- the second part lacks a sequence: so does the whole
         both_lack : Lacks two → Lacks both
-        both_lack lacks = record {
-          lines = (lines_of_both lines).1;
-          lost = ap₂ (λ names records. leave (Some names) None records) (names_of_both lines) joint.0 ∙ by_records (R two.second) lost lacks.lost;
-        }
-          where
-            by_records : (twos : List Feature) → IsLost (N one.first) (R one.second) twos → leave (Some (N two.first)) None twos ≡ None → leave (Some (N one.first ++ N two.first)) None (R one.second ++ twos) ≡ None
-            by_records [] lost e = cc
-            by_records (r ∷ rs) lost e = later_leave (N one.first) rest (R one.second) kept (N two.first) r rs lost ∙ e
+        both_lack lacks = grind (arith, lines_of_both, leave, names_of_both, joint, later_leave)
 
         both_lines : Lacks two → (report_on both).output ≡ (report_on one).output ++ (report_on two).output
         both_lines lacks = lacks_output both (both_lack lacks) ∙ all_lines ∙ sym (ap₂ (λ a b. a ++ b) first_output (lacks_output two lacks))
@@ -236,29 +231,29 @@ module _ (how : MaskHow) (full : Bool) where
         none_of_both e = none_like (B two.second).fault (B (one.second ++ two.second)).fault (sym joint.1) e
 
         no_fault : (B two.second).fault ≡ None → (report_on both).output ≡ (report_on one).output ++ (report_on two).output
-        no_fault e = sound_output how (F (one.first ++ two.first)) (B (one.second ++ two.second)) (none_of_both e) ∙ all_lines ∙ sym (ap₂ (λ a b. a ++ b) first_output (sound_output how (F two.first) (B two.second) e))
+        no_fault e =
+            sound_output how (F (one.first ++ two.first)) (B (one.second ++ two.second)) (none_of_both e)
+            ∙ all_lines
+            ∙ sym (ap₂ (λ a b. a ++ b) first_output (sound_output how (F two.first) (B two.second) e))
 
         whole_sound : IsSound (F two.first) (B two.second) → IsSound (F (one.first ++ two.first)) (B (one.second ++ two.second))
         whole_sound second = grind (arith, lines_of_both, joint, none_of_both, names_of_both, both_owned)
 
-        either : (g : Option FaultValue) → (B two.second).fault ≡ g → (ts : List Feature) → R two.second ≡ ts → (rest : List ℕ) × ((report_on one).output ++ (report_on two).output ≡ (report_on both).output ++ rest)
-        either None e ts is = ([], sym (no_fault e) ∙ sym (append-nil (report_on both).output))
-        either (Some fault) e (r ∷ rs) is = ([], sym (past_first r rs is) ∙ sym (append-nil (report_on both).output))
-        either (Some fault) e [] is = before_second fault e is
-
         pub stops_sound : (report_on one).fault ≡ None → Stops (report_on one) (report_on two) (report_on both)
-        stops_sound none = grind (arith, (either (B two.second).fault refl (R two.second) refl))
+        stops_sound none = grind (arith, no_fault, append-nil, past_first, before_second)
 
     -- both parts are sound
     both_sound : IsSound (F one.first) (B one.second) → IsSound (F two.first) (B two.second) → IsLost (N one.first) (R one.second) (said_records two.second)
-        → IsSound (F (one.first ++ two.first)) (B (one.second ++ two.second)) × ((report_on both).output ≡ (report_on one).output ++ (report_on two).output)
+        → IsSound (F (one.first ++ two.first)) (B (one.second ++ two.second))
+        × ((report_on both).output ≡ (report_on one).output ++ (report_on two).output)
     both_sound first second said =
         let left = some_list (leave (Some (N one.first)) None (R one.second)) first.owned in
         let lost = subst (IsLost (N one.first) (R one.second)) (sym (sound_from block_sorting Second None (text_lines two.second) second.records)) said in
         (whole_sound first.lines left.0 left.1 first.records lost said second, no_fault first.lines left.0 left.1 first.records lost said second.records)
 
     -- names may be repeated
-    pub two_suffice : BelongsToNone (sequence_names full one.first) (said_records one.second) (said_records two.second) → (report_on one).fault ≡ None → (report_on two).fault ≡ None
+    pub two_suffice : BelongsToNone (sequence_names full one.first) (said_records one.second) (said_records two.second) → (report_on one).fault ≡ None
+        → (report_on two).fault ≡ None
         → ((report_on both).fault ≡ None) × ((report_on both).output ≡ (report_on one).output ++ (report_on two).output)
     two_suffice has e d =
         let first = report_sound how (F one.first) (B one.second) e in
@@ -269,17 +264,20 @@ module _ (how : MaskHow) (full : Bool) where
         as_lost names ones [] has = tt
         as_lost names ones (r ∷ twos) has = leave_all (Some names) (ones ++ r ∷ []) ∙ has
 
-        said_lost : IsSound (F one.first) (B one.second) → BelongsToNone (sequence_names full one.first) (said_records one.second) (said_records two.second) → IsLost (N one.first) (R one.second) (said_records two.second)
+        said_lost : IsSound (F one.first) (B one.second) → BelongsToNone (sequence_names full one.first) (said_records one.second) (said_records two.second)
+            → IsLost (N one.first) (R one.second) (said_records two.second)
         said_lost first has = grind (arith, names_grown, sound_from, as_lost)
 
     -- no record is named as a sequence of the other part
     module _ (off_two : MasksNone full one two) (off_one : MasksNone full two one) where
       ones_away : AreOff (N two.first) (R one.second)
       ones_away =
-          subst (λ names. AreOff names (R one.second)) (sym (names_grown full First two.first (second_sound full First one.first two.first are.first are.begins)))
+          subst (λ names. AreOff names (R one.second))
+          (sym (names_grown full First two.first (second_sound full First one.first two.first are.first are.begins)))
           (among Second _ (text_lines one.second) off_two)
 
-      lost_names : (F one.first).fault ≡ None → (twos : List Feature) → AreOff (sequence_names full one.first) twos → IsLost (N one.first) (R one.second) twos
+      lost_names : (F one.first).fault ≡ None → (twos : List Feature) → AreOff (sequence_names full one.first) twos
+          → IsLost (N one.first) (R one.second) twos
       lost_names e twos off = grind (arith, lost_off, (names_grown full First one.first e))
 
       -- if both are sound, so is each part
@@ -312,7 +310,9 @@ module _ (how : MaskHow) (full : Bool) where
         parts_sound = sound_by (leave (Some (N one.first)) None (R one.second)) refl
 
       -- both parts are without a fault
-      both_hold : (report_on one).fault ≡ None → (report_on two).fault ≡ None → IsSound (F (one.first ++ two.first)) (B (one.second ++ two.second)) × ((report_on both).output ≡ (report_on one).output ++ (report_on two).output)
+      both_hold : (report_on one).fault ≡ None → (report_on two).fault ≡ None
+          → IsSound (F (one.first ++ two.first)) (B (one.second ++ two.second))
+          × ((report_on both).output ≡ (report_on one).output ++ (report_on two).output)
       both_hold e d =
           let first = report_sound how (F one.first) (B one.second) e in
           both_sound first (report_sound how (F two.first) (B two.second) d) (lost_names first.lines (said_records two.second) off_one)
@@ -335,7 +335,8 @@ module _ (how : MaskHow) (full : Bool) where
           lost =
               let more = first_front Second one.second two.second are.second in
               ap₂ (λ names records. leave (Some names) None records) (names_of_both lacks.lines) more.1
-              ∙ none_behind (N one.first ++ N two.first) (R one.second) more.0 (lost_more (N one.first) (N two.first) None (R one.second) ones_away lacks.lost);
+              ∙ none_behind (N one.first ++ N two.first) (R one.second) more.0
+              (lost_more (N one.first) (N two.first) None (R one.second) ones_away lacks.lost);
         }
 
         goes_on : (more : List ℕ) × ((report_on both).output ≡ (report_on one).output ++ more)
@@ -391,4 +392,5 @@ module _ (how : MaskHow) (full : Bool) where
         sound_stops = stops_sound first.lines left.0 left.1 first.records lost_in said_in none
 
         pub sound_goes : Lacks two → Lacks both × ((report_on both).output ≡ (report_on one).output ++ (report_on two).output)
-        sound_goes lacks = (both_lack first.lines left.0 left.1 first.records lost_in said_in lacks, both_lines first.lines left.0 left.1 first.records lost_in said_in lacks)
+        sound_goes lacks =
+            (both_lack first.lines left.0 left.1 first.records lost_in said_in lacks, both_lines first.lines left.0 left.1 first.records lost_in said_in lacks)

@@ -44,10 +44,6 @@ module _ (how : MaskHow) where
       grind (arith, (met_fault_all (rule_of names members None) lines fault (all_decided how names (record { members = members; fault = None }) lines refl)))
   sound_by names lines fault members (Some f) e = absurd (grind arith)
 
-  none_by : (names : List (List ℕ)) (lines : List SequenceLine) (fault : Option FaultValue) (members : List (Member Feature)) (second : Option FaultValue)
-      → fault ≡ None → second ≡ None → no_sequence names members ≡ None → (join_report (rule_of names members second) lines fault).fault ≡ None
-  none_by names lines fault members second e d o = grind arith
-
 -- ---- records without a sequence
 
 -- the first record that belongs to none
@@ -61,12 +57,7 @@ record FirstLost (names : List (List ℕ)) (ms : List (Member Feature)) : Type 0
 
 find_lost : (names : List (List ℕ)) (past ms : List (Member Feature)) → is_some (leave (Some names) None (items past)) ≡ true → leave (Some names) None (items (past ++ ms)) ≡ None → FirstLost names (past ++ ms)
 find_lost names past [] kept lost = grind (arith, append-nil)
-find_lost names past (m ∷ ms) kept lost = by_here (leave (Some names) None (items (past ++ m ∷ []))) refl (λ k l. find_lost names (past ++ m ∷ []) ms k l)
-  where
-    by_here : (o : Option (List (List ℕ))) → leave (Some names) None (items (past ++ m ∷ [])) ≡ o
-        → (is_some (leave (Some names) None (items (past ++ m ∷ []))) ≡ true → leave (Some names) None (items ((past ++ m ∷ []) ++ ms)) ≡ None → FirstLost names ((past ++ m ∷ []) ++ ms)) → FirstLost names (past ++ m ∷ ms)
-    by_here None e next = record { past = past; it = m; more = ms; is = refl; kept = kept; lost = e }
-    by_here (Some rest) e next = grind (arith, append_assoc)
+find_lost names past (m ∷ ms) kept lost = grind (arith, leave, items, append_assoc, (find_lost names (past ++ m ∷ []) ms))
 
 -- it is reported that there is no sequence for it
 pub told_lost : (names : List (List ℕ)) (ms : List (Member Feature)) → leave (Some names) None (items ms) ≡ None → (line : ℕ) × (no_sequence names ms ≡ Some (fault_at_line Second line NoSequence))
@@ -100,7 +91,7 @@ module _ (how : MaskHow) (first : Good SequenceLine) (second : Good Feature) whe
       record { lines = all.0; records = all.1; owned = none_owned (names_of_sequences (items_in first)) second.members all.2 }
 
   pub sound_report : IsSound first second → (mask_good how first second).fault ≡ None
-  sound_report s = none_by how (names_of_sequences (items_in first)) (items_in first) first.fault second.members second.fault s.lines s.records (owned_none (names_of_sequences (items_in first)) second.members s.owned)
+  sound_report s = grind (arith, owned_none)
 
   pub sound_output : second.fault ≡ None → (mask_good how first second).output ≡ flat_map (masked_line how (items_in second)) (items_in first)
   sound_output e = faultless_masked how (names_of_sequences (items_in first)) (items_in first) first.fault second e

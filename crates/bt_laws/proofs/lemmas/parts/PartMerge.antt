@@ -126,17 +126,20 @@ module _ (gap : ℕ) where
       (all_filter (λ r. bytes_eq r.chrom name ≡ false) (λ r. is_counted (One strand) r.strand) rs (all_unmap (λ r. bytes_eq r.chrom name ≡ false) interval_of rs (has_none name (intervals_of rs) e))))))
 
   module _ (ones twos : List Feature) (away : Away (intervals_of ones) (intervals_of twos)) where
-    begun_first : (before : List Feature) (r : Feature) → has_records r.chrom (intervals_of twos) ≡ false → begun_by (runs_of_strand gap (ones ++ twos) r.strand) before r ≡ begun_by (runs_of_strand gap ones r.strand) before r
-    begun_first before r e = grind (arith, runs_both, map-append, filter-append, filter_none, all_so, items_elsewhere, append-nil)
-
     listed_first : (before rs : List Feature) → AllByRecursion (λ r. has_records r.chrom (intervals_of twos) ≡ false) rs → listed_behind (runs_of_strand gap (ones ++ twos)) before rs ≡ listed_behind (runs_of_strand gap ones) before rs
     listed_first before [] h = refl
-    listed_first before (r ∷ rs) h = ap₂ (λ a b. a ++ b) (begun_first before r h.0) (listed_first (before ++ r ∷ []) rs h.1)
+    listed_first before (r ∷ rs) h =
+        grind (arith, runs_both, map-append, filter-append, filter_none, all_so, items_elsewhere, append-nil, (listed_first (before ++ r ∷ []) rs h.1))
 
     -- no record of the first part lies in a run of the second
     none_first : (strand : Strand) → AllByRecursion (λ item. AllByRecursion (λ r. is_in item r ≡ false) ones) (runs_of_strand gap twos strand)
     none_first strand =
-        all_swapped (λ r item. is_in item r ≡ false) ones (runs_of_strand gap twos strand) (all_so (λ r. has_records r.chrom (intervals_of twos) ≡ false) (λ r. AllByRecursion (λ item. is_in item r ≡ false) (runs_of_strand gap twos strand)) ones (λ r e. all_so (Elsewhere r.chrom) (λ item. is_in item r ≡ false) (runs_of_strand gap twos strand) (λ item out. not_in item r out) (items_elsewhere r.chrom twos strand e)) (all_unmap _ interval_of ones away.first))
+        all_swapped (λ r item. is_in item r ≡ false) ones (runs_of_strand gap twos strand)
+        (all_so (λ r. has_records r.chrom (intervals_of twos) ≡ false)
+        (λ r. AllByRecursion (λ item. is_in item r ≡ false) (runs_of_strand gap twos strand)) ones
+        (λ r e. all_so (Elsewhere r.chrom) (λ item. is_in item r ≡ false) (runs_of_strand gap twos strand) (λ item out. not_in item r out)
+        (items_elsewhere r.chrom twos strand e))
+        (all_unmap _ interval_of ones away.first))
 
     begun_second : (before : List Feature) (r : Feature) → has_records r.chrom (intervals_of ones) ≡ false → begun_by (runs_of_strand gap (ones ++ twos) r.strand) (ones ++ before) r ≡ begun_by (runs_of_strand gap twos r.strand) before r
     begun_second before r e =

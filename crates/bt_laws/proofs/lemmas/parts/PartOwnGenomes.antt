@@ -1,5 +1,5 @@
 -- Two inputs of which each part has its own part of the genome file.
-use Rattle.bt_lines.proofs.Std.{arith, ◌≡◌, ℕ, Bool, not, ◌&&◌, List, [], ◌∷◌, ◌++◌, map, append-nil, Option, Some, None, Ok, refl, sym, ap, ap₂, ◌∙◌, AllByRecursion, list_all, subst}
+use Rattle.bt_lines.proofs.Std.{arith, ◌≡◌, ℕ, Bool, ◌&&◌, List, [], ◌∷◌, ◌++◌, map, append-nil, Option, Some, None, Ok, refl, sym, ap, ap₂, ◌∙◌, AllByRecursion, list_all, subst}
 use Rattle.bt_lines.specs.model.Fault.{FaultValue}
 use Rattle.bt_lines.specs.model.Lines.{Handed, text_lines}
 use Rattle.bt_lines.specs.declared.fault.Input.{Input}
@@ -7,11 +7,11 @@ use Rattle.bt_lines.specs.declared.fault.Input.TheVariants.{First, Second}
 use Rattle.bt_bed.specs.model.Feature.{Feature}
 use Rattle.bt_bed.specs.model.Genome.{Entry, genome_names}
 use Rattle.bt_bed.specs.model.Good.{Good, good, items_in, bed_format}
-use Rattle.bt_bed.specs.model.Sorted.{is_below_at, sorting_of}
+use Rattle.bt_bed.specs.model.Sorted.{sorting_of}
 use Rattle.bt_bed.specs.model.Order.{rank_order}
 use Rattle.bt_bed.specs.calls.Orders.{AreDistinct}
 use Rattle.bt_bed.specs.inside.RankTotal.{ranks_total}
-use Rattle.bt_sweep.specs.model.Hits.{decided, decides}
+use Rattle.bt_sweep.specs.model.Hits.{decided}
 use Rattle.bt_sweep.specs.model.Lines.{subtract_shape}
 use Rattle.bt_sweep.specs.declared.hits.hit_rule.HitRule.{HitRule}
 use Rattle.bt_sweep.specs.declared.output.shape.Shape.{Shape}
@@ -47,11 +47,8 @@ module _ (mine yours : List (List ℕ)) (agree : Agree (rank_order mine) (rank_o
   good_within : (input : Input) (text : List ℕ) → AllByRecursion In (said_records text) → AllByRecursion In (items_in (good (bed_format (sorting_of (rank_order yours))) input (text_lines text)))
   good_within input text h = items_all (sorting_of (rank_order yours)) input In None (text_lines text) (all_so _ _ (said_records text) (λ r i known. i) h)
 
-  decides_same : (a b : Feature) → In a → In b → decides (rank_order mine) a b ≡ decides (rank_order yours) a b
-  decides_same a b one two = ap (λ o. not (is_below_at o b.start a.stop)) (agree.compare b.chrom a.chrom two one)
-
   decided_same : (a : Feature) (bs : List Feature) → In a → AllByRecursion In bs → decided (rank_order mine) a bs ≡ decided (rank_order yours) a bs
-  decided_same a bs one h = grind (arith, any_same, all_so, decides_same)
+  decided_same a bs one h = grind (arith, any_same, all_so)
 
   sweep_same : (given : List Feature) (fa : Option FaultValue) (bs : List Feature) (fb : Option FaultValue) → AllByRecursion In given → AllByRecursion In bs
       → sweep_report (rank_order mine) shape rule given fa bs fb ≡ sweep_report (rank_order yours) shape rule given fa bs fb
@@ -115,7 +112,8 @@ module _ (command : Command) (shape : Shape) (rule : HitRule)
       all_both _ (said_records shard.texts.first) (said_records shard.texts.second) (lies shard.entries whole First shard.texts.first none.0) (lies shard.entries whole Second shard.texts.second none.1)
 
   pairs_suffice : PairShardsSuffice command
-  pairs_suffice genome shards are all = grind (arith, own_parts, (all_zip _ _ _ shards (λ shard has e. pair_lies (pair_entries shards) shard has e) are.parts (all_unmap _ _ shards all)))
+  pairs_suffice genome shards are all =
+      grind (arith, own_parts, (all_zip _ _ _ shards (λ shard has e. pair_lies (pair_entries shards) shard has e) are.parts (all_unmap _ _ shards all)))
 
 pub intersect_genome_parts : intersect_genomes_divide
 intersect_genome_parts shape rule = own_parts (Intersect shape rule None) shape rule (λ genome entries has. intersect_is (Some genome) (Some entries) has shape rule)
@@ -135,7 +133,9 @@ pub genomecov_suffice : genomecov_shards_suffice
 genomecov_suffice zeros strand = shards_suffice (λ entries. coverage_written entries zeros strand) (Coverage zeros strand) (λ entries first. refl) (genomecov_parts zeros strand)
 
 pub intersect_suffice : intersect_shards_suffice
-intersect_suffice shape rule = pairs_suffice (Intersect shape rule None) shape rule (λ genome entries has. intersect_is (Some genome) (Some entries) has shape rule)
+intersect_suffice shape rule =
+    pairs_suffice (Intersect shape rule None) shape rule (λ genome entries has. intersect_is (Some genome) (Some entries) has shape rule)
 
 pub subtract_suffice : subtract_shards_suffice
-subtract_suffice whole rule = pairs_suffice (Subtract whole rule None) (subtract_shape whole) rule (λ genome entries has. subtract_is (Some genome) (Some entries) has whole rule)
+subtract_suffice whole rule =
+    pairs_suffice (Subtract whole rule None) (subtract_shape whole) rule (λ genome entries has. subtract_is (Some genome) (Some entries) has whole rule)

@@ -57,7 +57,16 @@ module _ (full : Bool) (input : Input) where
   unfolding good_from
   moved_from names s [] named = record { items = refl; none = refl; same = refl; named = tt }
   moved_from names s (l ∷ ls) named =
-      grind (arith, (says_header s l), (says_header (reached_after names s) l), (says_bases s l), (says_bases (reached_after names s) l), named_more, append_assoc, (λ (now : Reached). moved_from names now ls))
+      grind (
+        arith,
+        (says_header s l),
+        (says_header (reached_after names s) l),
+        (says_bases s l),
+        (says_bases (reached_after names s) l),
+        named_more,
+        append_assoc,
+        (λ (now : Reached). moved_from names now ls),
+      )
 
   -- from a header on
   moved_header : (r : Reached) (ls : List TextLine) → BeginsAtHeader ls → AreMoved r.names (good_from Fasta input r ls) (good_from Fasta input Fasta.begin ls)
@@ -127,7 +136,9 @@ module _ (full : Bool) (input : Input) where
 
   header_first : (n : ℕ) (text : List ℕ) → IsTrue (begins_sequence text) → BeginsAtHeader (lines_from n text)
   header_first n text =
-      by_lines (λ n bytes. IsTrue (begins_sequence bytes) → BeginsAtHeader (lines_from n bytes)) (λ n piece clear e. grind (arith, (lines_from-last n piece clear))) (λ n piece rest clear is e. grind (arith, common_steps, (lines_from-fed n piece rest clear))) n text
+      by_lines (λ n bytes. IsTrue (begins_sequence bytes) → BeginsAtHeader (lines_from n bytes))
+      (λ n piece clear e. grind (arith, (lines_from-last n piece clear)))
+      (λ n piece rest clear is e. grind (arith, common_steps, (lines_from-fed n piece rest clear))) n text
 
   -- the lines of the second text, whatever the numbers of its lines
   moved_lines : (r : Reached) (n : ℕ) (two : List ℕ) → IsTrue (begins_sequence two) → AreMoved r.names (good_from Fasta input r (lines_from n two)) (good Fasta input (text_lines two))

@@ -124,7 +124,8 @@ module _ {T : Type 0} (chrom : T → List ℕ) (ends : Interval → T → Bool) 
         ∙ filter-append (is_ended Both last) (whole_of e_one (q ∷ qs)) (whole_of e_two (q ∷ qs))
         ∙ ap₂ (λ a b. a ++ b)
         (filter_same (is_ended Both last) (is_ended One-names last) (whole_of e_one (q ∷ qs)) (all_so _ _ (whole_of e_one (q ∷ qs)) (λ t is. ap (λ o. is_over_at o (ends last t)) ((agree_first e_one e_two).compare (chrom t) last.chrom (λ w. is) (λ w. at))) (items_named One-names e_one (q ∷ qs) own_one)))
-        (filter_none (is_ended Both last) (whole_of e_two (q ∷ qs)) (all_so _ _ (whole_of e_two (q ∷ qs)) (λ t is. ap (λ o. is_over_at o (ends last t)) (greater (chrom t) last.chrom is at)) (items_named Two-names e_two (q ∷ qs) own_two)))
+        (filter_none (is_ended Both last) (whole_of e_two (q ∷ qs)) (all_so _ _ (whole_of e_two (q ∷ qs))
+        (λ t is. ap (λ o. is_over_at o (ends last t)) (greater (chrom t) last.chrom is at)) (items_named Two-names e_two (q ∷ qs) own_two)))
         ∙ append-nil (filter (is_ended One-names last) (whole_of e_one (q ∷ qs)))
 
     settled_both : (ones : List Feature) (s : Feature) (twos : List Feature) → AllByRecursion (λ r. is_among One-names r.chrom ≡ true) (intervals_of ones) → AllByRecursion (λ r. is_among Two-names r.chrom ≡ true) (intervals_of (s ∷ twos))
@@ -136,7 +137,8 @@ module _ {T : Type 0} (chrom : T → List ℕ) (ends : Interval → T → Bool) 
         ∙ ap (filter (is_ended Both last)) (whole_both ones (s ∷ twos) in_one in_two)
         ∙ filter-append (is_ended Both last) (whole_of e_one ones) (whole_of e_two (s ∷ twos))
         ∙ ap₂ (λ a b. a ++ b)
-        (filter_all (is_ended Both last) (whole_of e_one ones) (all_so _ _ (whole_of e_one ones) (λ t is. ap (λ o. is_over_at o (ends last t)) (less (chrom t) last.chrom is at)) (items_named One-names e_one ones own_one)))
+        (filter_all (is_ended Both last) (whole_of e_one ones) (all_so _ _ (whole_of e_one ones)
+        (λ t is. ap (λ o. is_over_at o (ends last t)) (less (chrom t) last.chrom is at)) (items_named One-names e_one ones own_one)))
         (filter_same (is_ended Both last) (is_ended Two-names last) (whole_of e_two (s ∷ twos)) (all_so _ _ (whole_of e_two (s ∷ twos)) (λ t is. ap (λ o. is_over_at o (ends last t)) ((agree_second e_one e_two distinct).compare (chrom t) last.chrom (λ w. is) (λ w. at))) (items_named Two-names e_two (s ∷ twos) own_two)))
 
     lines_both : (xs ys : List T) → flat_map line (xs ++ ys) ≡ flat_map line xs ++ flat_map line ys
@@ -339,7 +341,9 @@ known_from order input ms e =
     subst (AllByRecursion (λ r. IsTrue (order.knows r.chrom))) (sound_from (sorting_of order) input None ms e) (items_all (sorting_of order) input (λ r. IsTrue (order.knows r.chrom)) None ms (all_any _ _ (λ r known. known)))
 
 -- on those of the part's genome file
-pub lies : (own whole : List Entry) (input : Input) (text : List ℕ) → (good (bed_format (sorting_of (rank_order (genome_names own)))) input (text_lines text)).fault ≡ None → AllByRecursion (LiesWithin own whole) (said_records text)
+pub lies : (own whole : List Entry) (input : Input) (text : List ℕ)
+    → (good (bed_format (sorting_of (rank_order (genome_names own)))) input (text_lines text)).fault ≡ None
+    → AllByRecursion (LiesWithin own whole) (said_records text)
 lies own whole input text e = grind (arith, all_so, among_ranked, (known_from (rank_order (genome_names own)) input (text_lines text) e))
 
 -- ---- any command that writes so
@@ -418,10 +422,12 @@ module _ (W : List Entry → Written Feature) (command : Command)
   shard_lies : (whole : List Entry) (shard : Shard) → chromosomes_of (Some shard.genome) ≡ Ok (Some shard.entries) → (on_text command (Some shard.genome) shard.text).fault ≡ None
       → AllByRecursion (LiesWithin shard.entries whole) (said_records shard.text)
   shard_lies whole shard has e =
-      lies shard.entries whole First shard.text (sym (grind arith) ∙ ap (λ (r : Report). r.fault) (sym (text_report shard.genome shard.entries shard.text has)) ∙ e)
+      lies shard.entries whole First shard.text
+      (sym (grind arith) ∙ ap (λ (r : Report). r.fault) (sym (text_report shard.genome shard.entries shard.text has)) ∙ e)
 
   pub shards_suffice : ((genome : Handed) (shards : List Shard) → AreShards genome shards → ShardsAddUp command genome shards) → ShardsSuffice command
-  shards_suffice add genome shards are all = grind (arith, (all_zip _ _ _ shards (λ shard has e. shard_lies (all_entries shards) shard has e) are.parts (all_unmap _ _ shards all)))
+  shards_suffice add genome shards are all =
+      grind (arith, (all_zip _ _ _ shards (λ shard has e. shard_lies (all_entries shards) shard has e) are.parts (all_unmap _ _ shards all)))
 
 pub complement_parts : complement_divides
 unfolding lines_from good_from complement

@@ -106,7 +106,8 @@ module _ {order : Order} {total : IsTotal order} (shape : Shape) (rule : HitRule
   -- the first of the others decides all before it
   first_decided : (b : Feature) (bs : List Feature) → btwos ≡ b ∷ bs → AllByRecursion (λ a. decided order a (bones ++ btwos) ≡ true) aones
   first_decided b bs e =
-      all_zip (λ r. IsTrue (order.knows r.chrom)) (λ r. AllByRecursion (λ s. order.compare r.chrom s.chrom ≡ Less) btwos) (λ a. decided order a (bones ++ btwos) ≡ true) aones (λ a known less. grind (arith, common_steps)) split.known_first split.first_second
+      all_zip (λ r. IsTrue (order.knows r.chrom)) (λ r. AllByRecursion (λ s. order.compare r.chrom s.chrom ≡ Less) btwos)
+      (λ a. decided order a (bones ++ btwos) ≡ true) aones (λ a known less. grind (arith, common_steps)) split.known_first split.first_second
 
   module _ (fa1 fa2 fa fb1 fb2 fb : Option FaultValue) (all bs : List Feature) (ja : Contiguous fa1 fa2 fa aones atwos all) (jb : Contiguous fb1 fb2 fb bones btwos bs) where
     abbrev One : Report

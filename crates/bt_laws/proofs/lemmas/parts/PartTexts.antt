@@ -219,11 +219,7 @@ module _ (how : MaskHow) (full : Bool) where
 
   begins_joined : (parts : List Texts) → AllByRecursion (λ later. IsTrue (begins_sequence later.first)) parts → IsTrue (begins_sequence (joined_texts parts).first)
   begins_joined [] h = refl
-  begins_joined (t ∷ ts) h = by_first t.first h.0 (begins_joined ts h.1)
-    where
-      by_first : (text : List ℕ) → IsTrue (begins_sequence text) → IsTrue (begins_sequence (joined_texts ts).first) → IsTrue (begins_sequence (text ++ (joined_texts ts).first))
-      by_first [] e more = more
-      by_first (byte ∷ bytes) e more = e
+  begins_joined (t ∷ ts) h = grind (arith, (begins_joined ts h.1))
 
   are_two : (t u : Texts) (ts : List Texts) → AreMasked (t ∷ u ∷ ts) → AreTwo how full t (joined_texts (u ∷ ts))
   are_two t u ts fit = grind (arith, (begins_joined (u ∷ ts) fit.headers))
@@ -302,4 +298,5 @@ pub repeated_divide : repeated_names_divide
 repeated_divide how full parts lines headers none all =
     let sound = all_unmap _ (report_on how full) parts (rw (on_is how full parts) at all) in
     let whole = suffice_all how full parts (record { fit = record { lines = lines; headers = headers }; none = none }) sound in
-    rw (on_is how full parts, mask_is how full (joined_texts parts)) (whole.0, whole.1 ∙ sym (flat_map-map (λ (part : Report). part.output) (report_on how full) parts))
+    rw (on_is how full parts, mask_is how full (joined_texts parts))
+    (whole.0, whole.1 ∙ sym (flat_map-map (λ (part : Report). part.output) (report_on how full) parts))

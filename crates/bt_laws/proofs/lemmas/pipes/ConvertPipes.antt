@@ -109,14 +109,11 @@ line_as : (cigar : Bool) (a : Alignment) → bed_lines false cigar a ≡ text_of
 unfolding cigar_tail
 line_as cigar a = grind (arith, append_assoc)
 
-clear_if : (b : Bool) (text : List ℕ) → NoLineFeed text → NoLineFeed (if b then text else [])
-clear_if b text h = grind arith
-
 clear_segment : (number : ℕ) → eqb number 10 ≡ false → NoLineFeed (47 ∷ number ∷ [])
 clear_segment number e = grind (arith, eqb)
 
 clear_read : (a : Alignment) → NoLineFeed a.name → NoLineFeed (read_name a)
-clear_read a h = clear_both a.name _ h (clear_both _ _ (grind arith) (clear_if a.last (codes "/2") (clear_segment 50 refl)))
+clear_read a h = grind (arith, clear_both, codes, clear_segment)
 
 clear_cigar_tail : (cigar : Bool) (a : Alignment) → NoLineFeed a.cigar → NoLineFeed (cigar_tail cigar a)
 unfolding cigar_tail
@@ -147,14 +144,11 @@ tail_kept cigar a = search rules
 column_both : (xs ys : List ℕ) → IsColumn xs → IsColumn ys → IsColumn (xs ++ ys)
 column_both xs ys h k = All-append IsInside xs ys h k
 
-column_if : (b : Bool) (text : List ℕ) → IsColumn text → IsColumn (if b then text else [])
-column_if b text h = grind arith
-
 segment_column : (number : ℕ) → IsInside number → IsColumn (47 ∷ number ∷ [])
 segment_column number inside = All-from_recursion IsInside (47 ∷ number ∷ []) (refl, (inside, tt))
 
 name_column : (a : Alignment) → IsColumn a.name → IsColumn (read_name a)
-name_column a h = column_both a.name _ h (column_both _ _ (grind arith) (column_if a.last (codes "/2") (segment_column 50 refl)))
+name_column a h = grind (arith, column_both, codes, segment_column)
 
 strand_is : (cigar : Bool) (a : Alignment) → IsAligned a → strand_of (columns_in (kept_columns (read_name a ∷ columns_after cigar a))) ≡ (if a.reverse then Minus else Plus)
 strand_is cigar a is = ap strand_of (kept_is_cut (read_name a) (columns_after cigar a) (name_column a is.one_name) (grind (arith, number_column))) ∙ (grind arith)
@@ -237,13 +231,9 @@ module _ (full : Bool) (input : Input) (f : SequenceLine → List ℕ) (safe : (
   abbrev pub ReadsAgain : List TextLine → Type 0
   ReadsAgain lines = (m : ℕ) (reached : Reached) → (goods reached lines).fault ≡ None → ReadAgain m reached lines
 
-  none_again : (m : ℕ) (reached : Reached) → IsAgain [] (goods reached (lines_from m []))
-  unfolding good_from
-  none_again m reached = grind (arith, (lines_from-nil m))
-
   piece_again : (n : ℕ) (piece : List ℕ) → NoLineFeed piece → ReadsAgain (last_line n piece)
   unfolding good_from
-  piece_again n [] clear m reached none = none_again m reached
+  piece_again n [] clear m reached none = grind (arith, lines_from-nil)
   piece_again n (byte ∷ bytes) clear m reached none = grind (arith, (clear_strip 13 (byte ∷ bytes) clear), append-nil, last_by)
 
   next_again : (n : ℕ) (piece rest : List ℕ) → NoLineFeed piece → ReadsAgain (lines_from (suc n) rest) → ReadsAgain (fed_line n piece ∷ lines_from (suc n) rest)

@@ -171,7 +171,14 @@ module _ (order : Order) (total : IsTotal order) where
       unfolding good_from line_says
       good_written n last [] says follow = grind (arith, (lines_from-nil n))
       good_written n last (x ∷ xs) says follow =
-          grind (arith, (append_assoc (text x) (10 ∷ []) (flat_map line_for xs)), (lines_from-fed n (text x) (flat_map line_for xs) says.0.clear), (says.0.says), (said x), (λ (now : Option Locus). good_written (suc n) now xs says.1))
+          grind (
+            arith,
+            (append_assoc (text x) (10 ∷ []) (flat_map line_for xs)),
+            (lines_from-fed n (text x) (flat_map line_for xs) says.0.clear),
+            (says.0.says),
+            (said x),
+            (λ (now : Option Locus). good_written (suc n) now xs says.1),
+          )
 
       -- what is good of these lines
       pub good_lines : (xs : List X) → AllByRecursion SaysLine xs → ArePlaced order (intervals_of (said_of xs))
@@ -280,7 +287,14 @@ columns_said : (text : List ℕ) (columns : List (List ℕ)) (entry : Entry) →
 columns_said text [] entry clear cut e = cc
 columns_said text (name ∷ []) entry clear cut e = cc
 columns_said text (name ∷ size ∷ rest) entry clear cut e =
-    grind (arith, (value_of size), (join_with_byte-slice_split 9 text), (pieces_are_columns text), (clear_front name (9 ∷ join_with_byte 9 (size ∷ rest))), (value_at_most size))
+    grind (
+      arith,
+      (value_of size),
+      (join_with_byte-slice_split 9 text),
+      (pieces_are_columns text),
+      (clear_front name (9 ∷ join_with_byte 9 (size ∷ rest))),
+      (value_at_most size),
+    )
 
 line_is_chrom : (text : List ℕ) (entry : Entry) → NoLineFeed text → entry_of text ≡ Ok (Some entry) → IsChrom entry
 unfolding entry_of

@@ -123,7 +123,8 @@ apart_spread first (s ∷ ss) h = (h.0, h.1, apart_spread (s.stop + 1) ss h.2)
 abbrev pub IsBehind : ℕ → Span → Span → Type 0
 IsBehind gap s t = (s.start < s.stop) × (s.stop + gap ≤ t.start)
 
-spread_behind : (gap first : ℕ) (s : Span) (spans : List Span) → s.start < s.stop → s.stop + gap ≤ first → AreSpread gap first spans → AllByRecursion (IsBehind gap s) spans
+spread_behind : (gap first : ℕ) (s : Span) (spans : List Span) → s.start < s.stop → s.stop + gap ≤ first → AreSpread gap first spans
+    → AllByRecursion (IsBehind gap s) spans
 spread_behind gap first s [] some up h = tt
 spread_behind gap first s (t ∷ ts) some up h = ((some, omega (arith, up, h.0)), spread_behind gap (t.stop + gap) s ts some (omega (arith, up, h.0, h.1)) h.2)
 
@@ -132,7 +133,8 @@ spread_pairs gap first [] h = tt
 spread_pairs gap first (s ∷ ss) h = (spread_behind gap (s.stop + gap) s ss h.1 (omega arith) h.2, spread_pairs gap (s.stop + gap) ss h.2)
 
 -- spans of each chromosome; those of different ones have nothing in common
-module _ (order : Order) (total : IsTotal order) (R : Interval → Interval → Type 0) (gap : ℕ) (far : (r s : Interval) → (r.chrom ≡ s.chrom → r.stop + gap ≤ s.start) → R r s)
+module _ (order : Order) (total : IsTotal order) (R : Interval → Interval → Type 0) (gap : ℕ)
+    (far : (r s : Interval) → (r.chrom ≡ s.chrom → r.stop + gap ≤ s.start) → R r s)
     {K : Type 0} (name : K → List ℕ) (spans : K → List Span) where
   abbrev Follows : Interval → Interval → Type 0
   Follows r s = UpTo order total r s × R r s
@@ -146,20 +148,31 @@ module _ (order : Order) (total : IsTotal order) (R : Interval → Interval → 
       (pairs_weaker (IsBehind gap) (λ s t. Follows (placed_on (name k) s) (placed_on (name k) t)) (spans k)
       (λ s t b. (inr (refl, omega (arith, b.0, b.1)), far (placed_on (name k) s) (placed_on (name k) t) (λ same. b.1))) (spread_pairs gap 0 (spans k) spread))
 
-  on_two : (j k : K) → IsTrue (order.knows (name j)) → Earlier order (name j) (name k) → AllByRecursion (λ r. AllByRecursion (Follows r) (placed_spans k)) (placed_spans j)
+  abbrev Cross : K → K → Type 0
+  Cross j k = AllByRecursion (λ r. AllByRecursion (Follows r) (placed_spans k)) (placed_spans j)
+
+  on_two : (j k : K) → IsTrue (order.knows (name j)) → Earlier order (name j) (name k) → Cross j k
   on_two j k known less =
       all_map (λ r. AllByRecursion (Follows r) (placed_spans k)) (placed_on (name j)) (spans j)
-      (all_any _ (spans j) (λ s. all_map (Follows (placed_on (name j) s)) (placed_on (name k)) (spans k)
-      (all_any _ (spans k) (λ t. (inl less, far (placed_on (name j) s) (placed_on (name k) t) (λ same. absurd (let tied = total.same (name j) known in grind arith)))))))
+      (all_any _ (spans j) (λ s. all_map (Follows (placed_on (name j) s)) (placed_on (name k)) (spans k) (all_any _ (spans k)
+      (λ t. (inl less, far (placed_on (name j) s) (placed_on (name k) t) (λ same. absurd (let tied = total.same (name j) known in grind arith)))))))
 
-  pub spans_in_order : (ks : List K) → AllByRecursion (λ k. IsTrue (order.knows (name k))) ks → EachPair (λ j k. Earlier order (name j) (name k)) ks → AllByRecursion (λ k. AreSpread gap 0 (spans k)) ks → AreInOrder order R (flat_map placed_spans ks)
+  abbrev IsKnown : Interval → Type 0
+  IsKnown r = IsTrue (order.knows r.chrom)
+
+  known_on : (k : K) → IsTrue (order.knows (name k)) → AllByRecursion IsKnown (placed_spans k)
+  known_on k known = all_map IsKnown (placed_on (name k)) (spans k) (all_any _ (spans k) (λ s. known))
+
+  pub spans_in_order : (ks : List K) → AllByRecursion (λ k. IsTrue (order.knows (name k))) ks → EachPair (λ j k. Earlier order (name j) (name k)) ks
+      → AllByRecursion (λ k. AreSpread gap 0 (spans k)) ks → AreInOrder order R (flat_map placed_spans ks)
   spans_in_order ks known earlier spread =
+      let Known : K → Type 0 = λ k. IsTrue (order.knows (name k)) in
       let all = flat_map placed_spans ks in
-      let pairs = pairs_flat Follows placed_spans ks (all_so (λ k. AreSpread gap 0 (spans k)) (λ k. EachPair Follows (placed_spans k)) ks on_one spread)
-      (pairs_so (λ k. IsTrue (order.knows (name k))) (λ j k. Earlier order (name j) (name k)) (λ j k. AllByRecursion (λ r. AllByRecursion (Follows r) (placed_spans k)) (placed_spans j)) ks (λ j k p q less. on_two j k p less) known earlier) in
+      let own = all_so (λ k. AreSpread gap 0 (spans k)) (λ k. EachPair Follows (placed_spans k)) ks on_one spread in
+      let cross = pairs_so Known (λ j k. Earlier order (name j) (name k)) Cross ks (λ j k p q less. on_two j k p less) known earlier in
+      let pairs = pairs_flat Follows placed_spans ks own cross in
+      let there = all_flat_map IsKnown placed_spans ks (all_so Known (λ k. AllByRecursion IsKnown (placed_spans k)) ks known_on known) in
       record {
-        placed = pairs_placed order total all
-            (all_flat_map (λ r. IsTrue (order.knows r.chrom)) placed_spans ks (all_so (λ k. IsTrue (order.knows (name k))) (λ k. AllByRecursion (λ r. IsTrue (order.knows r.chrom)) (placed_spans k)) ks (λ k is. all_map (λ r. IsTrue (order.knows r.chrom)) (placed_on (name k)) (spans k) (all_any _ (spans k) (λ s. is))) known))
-            (pairs_weaker Follows (UpTo order total) all (λ r s f. f.0) pairs);
+        placed = pairs_placed order total all there (pairs_weaker Follows (UpTo order total) all (λ r s f. f.0) pairs);
         pairs = pairs_weaker Follows R all (λ r s f. f.1) pairs;
       }

@@ -20,7 +20,6 @@ use Rattle.bt_runs.proofs.lemmas.Lists.{EachPair, all_any, all_filter, all_flat_
 use Rattle.bt_laws.proofs.lemmas.pipes.LinesBack.{Columns, IsColumns, text_of_columns, placed_known, written_back, record_back, IsSaid, IsChrom, clear_tab, clear_number, strip_number}
 use Rattle.bt_laws.proofs.lemmas.pipes.Placing.{AreInOrder, AreSpread, Earlier, apart_spread, ascending_pairs, known_names, names_pairs, pairs_filter, pairs_from_map, spans_in_order}
 use Rattle.bt_laws.proofs.lemmas.parts.PartMerge.{named_all, listed_all}
-use Rattle.bt_lines.specs.model.Lines.{pieces}
 use Rattle.bt_bed.specs.model.Genome.{Entry, genome_names}
 use Rattle.bt_bed.specs.inside.RankTotal.{ranks_total}
 use Rattle.bt_bed.specs.model.Levels.{AreDisjointFrom, HasValue, Level}
@@ -64,11 +63,8 @@ depth_columns r is = grind (arith, (clear_tab (decimal r.depth) (clear_number r.
 depth_as : (r : DepthInterval) → depth_line r ≡ text_of_columns (with_depth r) ++ 10 ∷ []
 depth_as r = simp append_assoc
 
-one_column : (n : ℕ) → pieces 9 (decimal n) ≡ decimal n ∷ []
-one_column n = slice_split_none (λ b. eqb b 9) (decimal n) (number_column n)
-
 depth_back : (r : DepthInterval) → record_back (with_depth r) ≡ four_columns r
-depth_back r = grind (arith, strip_number, one_column)
+depth_back r = grind (arith, strip_number, slice_split_none, number_column)
 
 module _ (order : Order) (total : IsTotal order) where
   depth_lines_back : (rs : List DepthInterval) → AllByRecursion (λ r. IsWritten (interval_at r)) rs → ArePlaced order (map interval_at rs) → IsInput order (depth_lines rs) (filter is_no_header (map four_columns rs))
@@ -188,7 +184,8 @@ module _ (order : Order) (total : IsTotal order) where
     pub merge_in_order : AreInOrder order AreSeparate (ordered_runs order gap strand records)
     unfolding ordered_runs merged names
     merge_in_order =
-        spans_in_order order total AreSeparate 1 far_separate (λ name. name) (λ name. runs_of gap (spans_on name (counted strand records))) names known_in_order names_earlier
+        spans_in_order order total AreSeparate 1 far_separate (λ name. name)
+        (λ name. runs_of gap (spans_on name (counted strand records))) names known_in_order names_earlier
         (all_any _ names (λ name. (runs_within gap (spans_on name (counted strand records))).spread))
 
     pub merge_runs : AllByRecursion IsRun (ordered_runs order gap strand records)
@@ -248,9 +245,13 @@ module _ (entries : List Entry) (chroms : AllByRecursion IsChrom entries) (disti
 
     gaps_written : AllByRecursion IsWritten (complement limit entries records)
     unfolding complement
-    gaps_written = all_flat_map IsWritten (gaps_on (intervals_of records)) (filter asked entries)
-        (all_filter (λ e. AllByRecursion IsWritten (gaps_on (intervals_of records) e)) asked entries (all_so IsChrom (λ e. AllByRecursion IsWritten (gaps_on (intervals_of records) e)) entries
-        (λ e is. on_written e.name e.length (gap_spans e) is.named is.clear is.small (gaps_within e.length (spans_on e.name (intervals_of records))).within) chroms))
+    gaps_written =
+        let Written : Entry → Type 0 = λ e. AllByRecursion IsWritten (gaps_on (intervals_of records) e) in
+        all_flat_map IsWritten (gaps_on (intervals_of records)) (filter asked entries) (all_filter Written asked entries (all_so IsChrom Written entries
+        (λ e is.
+        let within = (gaps_within e.length (spans_on e.name (intervals_of records))).within in
+        on_written e.name e.length (gap_spans e) is.named is.clear is.small within)
+        chroms))
 
     pub gaps_back : IsInput file_order (interval_lines (complement limit entries records)) (filter is_no_header (map three_columns (complement limit entries records)))
     gaps_back = intervals_back file_order file_total (complement limit entries records) gaps_written gaps_in_order.placed
@@ -279,5 +280,8 @@ module _ (entries : List Entry) (chroms : AllByRecursion IsChrom entries) (disti
         (all_flat_map IsWritten depth_places entries (all_so IsChrom (λ e. AllByRecursion IsWritten (depth_places e)) entries
         (λ e is. on_written e.name e.length (depth_spans e) is.named is.clear is.small (levels_within (depths_at e) e.length).within) chroms))
 
-    pub coverage_back : IsInput file_order (depth_lines (coverage zeros strand entries records)) (filter is_no_header (map four_columns (coverage zeros strand entries records)))
-    coverage_back = depth_lines_back file_order file_total (coverage zeros strand entries records) (all_unmap IsWritten interval_at (coverage zeros strand entries records) depths_written) depths_in_order.placed
+    pub coverage_back : IsInput file_order (depth_lines (coverage zeros strand entries records))
+        (filter is_no_header (map four_columns (coverage zeros strand entries records)))
+    coverage_back =
+        depth_lines_back file_order file_total (coverage zeros strand entries records)
+        (all_unmap IsWritten interval_at (coverage zeros strand entries records) depths_written) depths_in_order.placed

@@ -98,9 +98,6 @@ module _ (shape : Shape) (rule : HitRule) (second : List Feature) where
 clear_record : (b : Feature) → IsSaid b → NoLineFeed (bed_text b)
 clear_record b is = tail_clear b.chrom b.start b.stop is.feature.named is.feature.non_empty is.feature.in_range b.rest is.clear_name is.clear_rest
 
-said_columns : (a : Feature) (start stop : ℕ) (more : List ℕ) → IsSaid a → start < stop → stop ≤ a.stop → IsTrue (is_kept more) → NoLineFeed more → IsColumns (columns_at (cut_to start stop a) more)
-said_columns a start stop more is below up kept clear = grind arith
-
 abbrev pub Hit : HitRule → Feature → Feature → Type 0
 Hit rule a b = IsSaid b × (hits rule a b ≡ true)
 
@@ -112,7 +109,7 @@ same_name rule a b h = (bytes_decides a.chrom b.chrom).0 (overlap_parts a b (hit
 
 module _ (rule : HitRule) (a : Feature) (is : IsSaid a) where
   cut_columns : (b : Feature) (more : List ℕ) → Hit rule a b → IsTrue (is_kept more) → NoLineFeed more → IsColumns (columns_at (cut a b) more)
-  cut_columns b more hit kept clear = said_columns a (max a.start b.start) (min a.stop b.stop) more is (cut_bounds rule a b hit.1) (omega arith) kept clear
+  cut_columns b more hit kept clear = grind (arith, cut_bounds)
 
   hit_is : (shape : Shape) (b : Feature) → Hit rule a b → IsColumns (hit_columns shape a b)
   unfolding hit_columns
@@ -241,9 +238,16 @@ module _ (order : Order) (total : IsTotal order) where
 
   part_rises : (shape : Shape) (a : Feature) (found : List Feature) → begins_with_a shape ≡ false → EachPair Rise found → EachPair (LineUpTo order total) (columns_for shape a found)
   unfolding columns_for hit_columns piece_columns
-  part_rises Cut a found e h = pairs_map (LineUpTo order total) (hit_columns Cut a) found (pairs_weaker Rise (λ b c. LineUpTo order total (hit_columns Cut a b) (hit_columns Cut a c)) found (λ b c up. inr (refl, omega (arith, up))) h)
-  part_rises CutAndB a found e h = pairs_map (LineUpTo order total) (hit_columns CutAndB a) found (pairs_weaker Rise (λ b c. LineUpTo order total (hit_columns CutAndB a b) (hit_columns CutAndB a c)) found (λ b c up. inr (refl, omega (arith, up))) h)
-  part_rises Pieces a found e h = pairs_map (LineUpTo order total) (piece_columns a) (pieces a found) (pairs_weaker (IsBehind 1) (λ s t. LineUpTo order total (piece_columns a s) (piece_columns a t)) (pieces a found) (λ s t up. inr (refl, omega (arith, up.0, up.1))) (pieces_behind a found))
+  part_rises Cut a found e h =
+      pairs_map (LineUpTo order total) (hit_columns Cut a) found
+      (pairs_weaker Rise (λ b c. LineUpTo order total (hit_columns Cut a b) (hit_columns Cut a c)) found (λ b c up. inr (refl, omega (arith, up))) h)
+  part_rises CutAndB a found e h =
+      pairs_map (LineUpTo order total) (hit_columns CutAndB a) found
+      (pairs_weaker Rise (λ b c. LineUpTo order total (hit_columns CutAndB a b) (hit_columns CutAndB a c)) found (λ b c up. inr (refl, omega (arith, up))) h)
+  part_rises Pieces a found e h =
+      pairs_map (LineUpTo order total) (piece_columns a) (pieces a found)
+      (pairs_weaker (IsBehind 1) (λ s t. LineUpTo order total (piece_columns a s) (piece_columns a t)) (pieces a found)
+      (λ s t up. inr (refl, omega (arith, up.0, up.1))) (pieces_behind a found))
   part_rises _ a found e h = cc
 
   abbrev FollowsApart : Feature → Feature → Type 0
@@ -292,6 +296,7 @@ module _ (order : Order) (total : IsTotal order) where
       (pairs_map AreDisjoint (λ (line : Columns). line.at) cut
       (pairs_flat (λ k l. AreDisjoint k.at l.at) (λ a. map (piece_columns a) (pieces a (hits_among rule a second))) first
       (all_any _ first (λ a. pairs_map (λ k l. AreDisjoint k.at l.at) (piece_columns a) (pieces a (hits_among rule a second))
-      (pairs_weaker (IsBehind 1) (λ s t. AreDisjoint (piece_columns a s).at (piece_columns a t).at) (pieces a (hits_among rule a second)) (λ s t up same. omega (arith, up.1)) (pieces_behind a (hits_among rule a second)))))
+      (pairs_weaker (IsBehind 1) (λ s t. AreDisjoint (piece_columns a s).at (piece_columns a t).at) (pieces a (hits_among rule a second))
+      (λ s t up same. omega (arith, up.1)) (pieces_behind a (hits_among rule a second)))))
       (cross_all order total (cut_part Pieces rule first second said said_second placed placed_second apart refl) IsWithin FollowsApart first (all_within Pieces rule first second said said_second placed placed_second apart refl)
       (follow_apart Pieces rule first second said said_second placed placed_second apart refl) (λ k l. AreDisjoint k.at l.at) cross_apart)))

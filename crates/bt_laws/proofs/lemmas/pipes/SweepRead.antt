@@ -14,18 +14,15 @@ use Rattle.bt_sweep.specs.declared.output.shape.Shape.{Shape}
 use Rattle.bt_sweep.specs.declared.output.shape.Shape.TheVariants.{Count, Cut, CutAndB, OrigBoth, Overlap, Pieces}
 use Rattle.bt_laws.specs.Pipes.{EndsPlain, KeepsStrand, TakesNoStrand, begins_with_a, copies_written, is_a_alone, line_count, read_alone, read_before, records_for, records_written}
 use Rattle.bt_laws.proofs.lemmas.pipes.LinesBack.{strip_number, record_back, IsSaid, kept_by, name_first, record_with, strip_both, strip_columns}
-use Rattle.bt_laws.proofs.lemmas.pipes.SweepBack.{Hit, all_columns, all_hits, columns_at, columns_for, hit_columns, part, piece_columns, same_name}
+use Rattle.bt_laws.proofs.lemmas.pipes.SweepBack.{Hit, all_columns, all_hits, columns_for, hit_columns, part, piece_columns, same_name}
 use Rattle.bt_runs.proofs.lemmas.Lists.{all_any, all_map, all_so, flat_map_same, all_zip, map_map, map_flat}
 use Rattle.bt_laws.proofs.lemmas.single.Records.{IsDigit, decimal_digits, number_column, columns_text, line_columns}
 
 -- ---- the columns of a line, read again
 
-before_tail : (a : Feature) (text : List ℕ) → record_back (columns_at a (a.rest ++ 9 ∷ text)) ≡ read_before text a
-before_tail a text = ap (record_with a.chrom a.start a.stop) (strip_both 13 a.rest (9 ∷ text) (omega arith))
-
 read_as : (shape : Shape) (a : Feature) (found : List Feature) → map record_back (columns_for shape a found) ≡ records_for shape a found
 unfolding columns_for hit_columns piece_columns
-read_as shape a found = grind (arith, map_map, all_any, before_tail)
+read_as shape a found = grind (arith, map_map, all_any, record_with, strip_both)
 
 pub all_read : (shape : Shape) (rule : HitRule) (first second : List Feature) → map record_back (all_columns shape rule second first) ≡ records_written shape rule first second
 unfolding all_columns part

@@ -146,7 +146,14 @@ none_named : (t : Feature → Bool) (n : List ℕ) (zs : Names) (bs : List (Bloc
     → list_any t (own_of (owned_from (Some (zs ++ n ∷ [])) bs)) ≡ false
 none_named t n zs [] on full e = refl
 none_named t n zs (b ∷ bs) on full e =
-    grind (arith, (first_off n b.chrom b.items (items_of bs) on.0 full.0 e), (other_behind b.chrom n zs), not_last, none_own, (λ (rest : Names). none_named t n rest bs))
+    grind (
+      arith,
+      (first_off n b.chrom b.items (items_of bs) on.0 full.0 e),
+      (other_behind b.chrom n zs),
+      not_last,
+      none_own,
+      (λ (rest : Names). none_named t n rest bs),
+    )
 
 none_on_it : (t : Feature → Bool) (n : List ℕ) (zs : Names) (rs : List Feature) → list_any (is_on n) rs ≡ false → list_any t (own_records (zs ++ n ∷ []) rs) ≡ false
 none_on_it t n zs rs e =

@@ -55,9 +55,6 @@ record KeepsApart (how : MaskHow) : Type 0 where
   header : IsNot how 62
 
 module _ (how : MaskHow) (keeps : KeepsLines how) where
-  apart : KeepsApart how
-  apart = grind arith
-
   module _ (records : List Feature) where
     abbrev kept_base : ℕ → ℕ → ℕ
     kept_base position base = if list_any (record_covers position) records then masked_byte how base else base
@@ -71,7 +68,7 @@ module _ (how : MaskHow) (keeps : KeepsLines how) where
 
     last_from : (position : ℕ) (bases : List ℕ) → ends_with_byte 13 bases ≡ false → ends_with_byte 13 (masked_from how records position bases) ≡ false
     last_from position [] e = e
-    last_from position (base ∷ []) e = kept_not position base 13 apart.return (omega arith) e
+    last_from position (base ∷ []) e = grind (arith, kept_not)
     last_from position (base ∷ next ∷ bases) e = grind (arith, common_steps, (last_from (suc position) (next ∷ bases) (sym (ends_both 13 (base ∷ []) (next ∷ bases) (omega arith)) ∙ e)), size_of)
 
   module _ (records : List Feature) where

@@ -70,9 +70,6 @@ module _ (keep : Feature → Bool) where
   depth_sum name [] p = refl
   depth_sum name (r ∷ rs) p = depth_split name (r ∷ []) rs p ∙ ap (λ n. depth_in name (r ∷ []) p + n) (depth_sum name rs p) ∙ sym (sum_by-cons (λ s. depth_in name (s ∷ []) p) r rs)
 
-  exchanged_has : (rs ss : List Feature) → IsPermutation rs ss → (name : List ℕ) → has_records name (kept rs) ≡ has_records name (kept ss)
-  exchanged_has rs ss is name = has_any name rs ∙ list_any-IsPermutation (has_one name) rs ss is ∙ sym (has_any name ss)
-
   pub exchanged_depth : (rs ss : List Feature) → IsPermutation rs ss → (name : List ℕ) (p : ℕ) → depth_in name rs p ≡ depth_in name ss p
   exchanged_depth rs ss is name p = grind (arith, (depth_sum name rs p), sum_by-IsPermutation, (depth_sum name ss p))
 
@@ -94,7 +91,7 @@ pub record IsAlike (rs ss : List Feature) : Type 0 where
   pub cover : (keep : Feature → Bool) (name : List ℕ) → SameCover (spans_on name (kept keep rs)) (spans_on name (kept keep ss))
 
 exchanged_alike : (rs ss : List Feature) → IsPermutation rs ss → IsAlike rs ss
-exchanged_alike rs ss is = grind (arith, exchanged_has, exchanged_cover)
+exchanged_alike rs ss is = grind (arith, exchanged_cover, has_any, list_any-IsPermutation)
 
 repeated_alike : (rs ss : List Feature) → IsRepeated rs ss → IsAlike rs ss
 repeated_alike rs ss is = record { has = λ keep. repeated_has keep rs ss is; cover = λ keep. repeated_cover keep rs ss is }
@@ -139,9 +136,6 @@ module _ (order : Order) (total : IsTotal order) where
     named_come : EachPair (Earlier order) (named keep rs) × ((name : List ℕ) → is_among (named keep rs) name ≡ has_records name (kept keep rs))
     named_come = grind (arith, names_in_order, known, distinct_chromosomes, ascending_pairs, known_named, among_chromosomes)
 
-  alike_names : (keep : Feature → Bool) (rs ss : List Feature) → ArePlaced order (intervals_of rs) → ArePlaced order (intervals_of ss) → IsAlike rs ss → named keep rs ≡ named keep ss
-  alike_names keep rs ss placed other is = grind (arith, (named_come keep rs placed), (named_come keep ss other), same_names, (known_named keep rs placed), (known_named keep ss other))
-
 -- ---- merge, complement and genomecov of them
 
 pub alike_merged : (names : List (List ℕ)) (gap : ℕ) (rs ss : List Interval) → ((name : List ℕ) → SameCover (spans_on name rs) (spans_on name ss)) → merged names gap rs ≡ merged names gap ss
@@ -150,7 +144,7 @@ alike_merged names gap rs ss same = flat_map_same (λ name. runs_on name gap rs)
 
 alike_runs : (order : Order) → IsTotal order → (gap : ℕ) (strand : MergeStrand) (rs ss : List Feature) → ArePlaced order (intervals_of rs) → ArePlaced order (intervals_of ss) → IsAlike rs ss → ordered_runs order gap strand rs ≡ ordered_runs order gap strand ss
 unfolding ordered_runs
-alike_runs order total gap strand rs ss placed other is = grind (arith, alike_names, alike_merged)
+alike_runs order total gap strand rs ss placed other is = grind (arith, alike_merged, named_come, same_names, known_named)
 
 pub all_counted : (rs : List Feature) → counted All rs ≡ intervals_of rs
 all_counted rs = ap intervals_of (filter_all (λ r. true) rs (all_any _ rs (λ r. refl)))
@@ -300,9 +294,6 @@ some_run gap (x ∷ xs) some full = some_spans (runs_of gap (x ∷ xs)) x.start 
 counted_full : (strand : MergeStrand) (records : List Feature) → AllByRecursion (λ (r : Feature). r.start < r.stop) records → AllByRecursion (λ (r : Interval). r.start < r.stop) (counted strand records)
 counted_full strand records h = grind (arith, all_map, all_filter)
 
-all_of_them : (rs : List Interval) → counted All (map three_columns rs) ≡ rs
-all_of_them rs = all_counted (map three_columns rs) ∙ back rs
-
 module _ (order : Order) (total : IsTotal order) (gap : ℕ) (strand : MergeStrand) (records : List Feature) (placed : ArePlaced order (intervals_of records)) (full : AllByRecursion (λ (r : Feature). r.start < r.stop) records) where
   abbrev used : List Interval
   used = counted strand records
@@ -332,7 +323,7 @@ module _ (order : Order) (total : IsTotal order) (gap : ℕ) (strand : MergeStra
   -- merged again they stay as they are
   pub merged_again : ArePlaced order (ordered_runs order gap strand records) → ordered_runs order gap All (map three_columns (ordered_runs order gap strand records)) ≡ ordered_runs order gap strand records
   unfolding merged
-  merged_again there = grind (arith, ordered_come, back, all_of_them, run_names, run_spans, runs_again)
+  merged_again there = grind (arith, ordered_come, back, run_names, run_spans, runs_again, all_counted)
 
 -- ---- a run on an output
 

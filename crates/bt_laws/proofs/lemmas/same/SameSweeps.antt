@@ -127,17 +127,15 @@ any_hits : (a b : Feature) → a.chrom ≡ b.chrom → max a.start b.start < min
 unfolding hits strands_agree
 any_hits a b same some = grind (arith, name_eq, enough_of_nothing)
 
-longer : (a b : Feature) (bs : List Feature) (p : ℕ) → IsCovered (spans_of (hits_among any_overlap a bs)) p → IsCovered (spans_of (hits_among any_overlap a (b ∷ bs))) p
-longer a b bs p c = grind arith
-
 hit_some : (a : Feature) (bs : List Feature) (p : ℕ) → IsCovered (spans_of (hits_among any_overlap a bs)) p → Some_of (CoversOn a.chrom p) bs
 hit_some a [] p c = absurd c
 hit_some a (b ∷ bs) p c = grind (arith, (hit_some a bs p), (cases_Bool (hits any_overlap a b)), (same_name any_overlap a b))
 
-some_hit : (a : Feature) (bs : List Feature) (p : ℕ) → a.start ≤ p → p < a.stop → Some_of (CoversOn a.chrom p) bs → IsCovered (spans_of (hits_among any_overlap a bs)) p
+some_hit : (a : Feature) (bs : List Feature) (p : ℕ) → a.start ≤ p → p < a.stop → Some_of (CoversOn a.chrom p) bs
+    → IsCovered (spans_of (hits_among any_overlap a bs)) p
 some_hit a [] p from to w = absurd w
 some_hit a (b ∷ bs) p from to (inl w) = grind (arith, any_hits)
-some_hit a (b ∷ bs) p from to (inr w) = longer a b bs p (some_hit a bs p from to w)
+some_hit a (b ∷ bs) p from to (inr w) = grind (arith, (some_hit a bs p from to w))
 
 -- the positions of a that the second input has, and those that its hits have
 pub hit_to : (a : Feature) (bs : List Feature) (p : ℕ) → IsCovered (spans_of (hits_among any_overlap a bs)) p → IsCovered (spans_on a.chrom (intervals_of bs)) p

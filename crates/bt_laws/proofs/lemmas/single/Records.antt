@@ -8,7 +8,7 @@ use Rattle.bt_lines.specs.declared.fault.Kind.{Kind}
 use Rattle.bt_lines.specs.declared.fault.Kind.TheVariants.{OutOfOrder, UnknownChrom}
 use Rattle.bt_bed.specs.model.Feature.{Feature, Interval, last_from}
 use Rattle.bt_bed.specs.model.BedLine.{is_header, columns_say, not_skipped, record_of, ends_word, first_word, bed_text, kept_columns}
-use Rattle.bt_bed.specs.calls.Features.{IsFeature, columns_in, said_are_features, IsName, is_kept}
+use Rattle.bt_bed.specs.calls.Features.{columns_in, said_are_features, IsName, is_kept}
 use Rattle.bt_bed.specs.model.Good.{good_from, line_says, said_after, block_format, bed_format}
 use Rattle.bt_bed.specs.model.Meeting.{Rule, join_report, written}
 use Rattle.bt_laws.specs.Records.{blocks_know_each_chromosome, good_stand_on_lines, first_lines_have_the_first, good_in_blocks_are_non_empty, good_in_blocks_stand_on_lines, genome_names_are_distinct, first_lines_make_entries, read_are_rewritten, written_are_read, StaysDecided, bytes_know_each_chromosome, first_difference_decides, prefixes_come_first, shared_are_common, stretches_are_one, contiguous_grows}
@@ -206,14 +206,11 @@ line_columns chrom start stop tail named kept =
     ap (λ l. chrom ++ 9 ∷ [] ++ decimal start ++ 9 ∷ [] ++ decimal stop ++ l) (sym (kept_again tail kept)) ∙ simp append_assoc in
     ap (pieces 9) text ∙ kept_is_cut chrom (decimal start ∷ decimal stop ∷ columns_in tail) named.one_column (number_column start, (number_column stop, grind (arith, pieces_are_columns)))
 
-text_says : (f : Feature) → IsFeature f → columns_say (pieces 9 (bed_text f)) ≡ Ok f
-text_says f is = grind (arith, (line_columns f.chrom f.start f.stop f.rest is.named is.kept), value_of_decimal, kept_again)
-
 pub said_feature : said_are_features
 said_feature text f e = said_is_feature text f (record_said text f e).1
 
 pub written_feature : written_are_read
-written_feature f is header = columns_of_line (bed_text f) header ∙ ap not_skipped (text_says f is)
+written_feature f is header = grind (arith, columns_of_line, line_columns, value_of_decimal, kept_again)
 
 -- what follows a tab doesn't change the first word
 pub until_tab : (chrom tail : List ℕ) → first_word (chrom ++ 9 ∷ tail) ≡ first_word chrom

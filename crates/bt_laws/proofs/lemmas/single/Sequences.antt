@@ -1,7 +1,7 @@
 -- Lemmas on alignments and masked sequences.
 use Rattle.bt_lines.proofs.Std.{common_steps, rules, ◌≡◌, ℕ, ◌<◌, ◌≤◌, Bool, true, false, cond, List, [], ◌∷◌, ◌++◌, length, Option, Some, None, refl, sym, ap, ◌∙◌, length-append, arith, bytes_eq, append_cancel_right, ◌+◌, subst, sum_by-cons, add-zero, not, list_all, and_parts, append_assoc, flat_map, AllByRecursion, ◌≢◌, bytes_decides}
 use Rattle.bt_bed.specs.model.Feature.{Feature, Span}
-use Rattle.bt_seq.specs.model.Masked.{Block, blocks_by, names_behind, owned_from, line_decided, mask_rule, SequenceLine}
+use Rattle.bt_seq.specs.model.Masked.{Block, blocks_by, names_behind, owned_from, mask_rule, SequenceLine}
 use Rattle.bt_seq.specs.calls.MaskState.{left_at_last}
 use Rattle.bt_laws.specs.Sequences.{owners_stay, owners_were, AreBetween, blocks_are_within, unskipped_are_one_block, Divides, division_is_found, division_is_one, is_operation, operations_are_divided, part_bytes, early_mask_rule, faultless_are_masked, masked_are_a_prefix, AreApart, AreOfChrom, DividesAt, blocks_are_maximal_runs, items_of, owners_are_first, unowned_find_no_name, quiet_records_are_taken, taken_are_first}
 use Rattle.bt_seq.specs.model.Alignment.{is_skip, with_bases, covered_by, reference_length, Part, each_operation, is_letter, onto_part, operation_of, operations_in, parts_of, with_part}
@@ -60,7 +60,11 @@ module _ {A : Type 0} where
   last_first : (more rest : List (List ℕ)) (bs : List (Block A)) (names : List (List ℕ)) → at_last (Some (names ++ more)) bs ≡ Some (rest ++ more) → at_last (Some names) bs ≡ Some rest
   last_first more rest [] names e = grind (arith, append_cancel_right)
   last_first more rest (b ∷ bs) names e =
-      grind (arith, none_at_last, (λ (all : List (List ℕ)) (is : names_behind b.chrom (names ++ more) ≡ Some all) (e : at_last (Some all) bs ≡ Some (rest ++ more)). behind_within b.chrom names more all (omega (arith, last_fewer (rest ++ more) bs all e, length-append rest more)) is), (names_behind b.chrom (names ++ more)), (last_first more rest bs))
+      grind (arith, none_at_last, found, (names_behind b.chrom (names ++ more)), (last_first more rest bs))
+    where
+      found : (all : List (List ℕ)) → names_behind b.chrom (names ++ more) ≡ Some all → at_last (Some all) bs ≡ Some (rest ++ more)
+          → Within b.chrom names more all
+      found all is e = behind_within b.chrom names more all (omega (arith, last_fewer (rest ++ more) bs all e, length-append rest more)) is
 
 pub owners_stay_so : owners_stay
 owners_stay_so names more records rest e = last_more more rest (blocks_by (λ (r : Feature). r.chrom) records) names e
@@ -119,10 +123,6 @@ unfolding operations_in
 division_found text parts p = ap (option_and_then each_operation) (parts_found text parts p)
 
 -- the parts that are found_parts are all bytes of the text
-letter_whole : (byte : ℕ) (bytes : List ℕ) (found_parts : Option (List Part)) (parts : List Part) → with_part (record { digits = []; letter = byte }) found_parts ≡ Some parts
-    → ((others : List Part) → found_parts ≡ Some others → flat_map part_bytes others ≡ bytes) → flat_map part_bytes parts ≡ byte ∷ bytes
-letter_whole byte bytes found_parts parts e h = grind arith
-
 byte_whole : (byte : ℕ) (bytes : List ℕ) (found_parts : Option (List Part)) (parts : List Part) → onto_part byte found_parts ≡ Some parts
     → ((others : List Part) → found_parts ≡ Some others → flat_map part_bytes others ≡ bytes) → flat_map part_bytes parts ≡ byte ∷ bytes
 byte_whole byte bytes None parts e h = cc
@@ -131,7 +131,7 @@ byte_whole byte bytes (Some (part ∷ others)) parts e h = grind (arith, (h (par
 
 whole_by : (byte : ℕ) (bytes : List ℕ) (b : Bool) (parts : List Part) → cond b (with_part (record { digits = []; letter = byte }) (parts_of bytes)) (onto_part byte (parts_of bytes)) ≡ Some parts
     → ((others : List Part) → parts_of bytes ≡ Some others → flat_map part_bytes others ≡ bytes) → flat_map part_bytes parts ≡ byte ∷ bytes
-whole_by byte bytes true parts e h = letter_whole byte bytes (parts_of bytes) parts e h
+whole_by byte bytes true parts e h = grind (arith)
 whole_by byte bytes false parts e h = byte_whole byte bytes (parts_of bytes) parts e h
 
 whole : (text : List ℕ) (parts : List Part) → parts_of text ≡ Some parts → flat_map part_bytes parts ≡ text
@@ -168,13 +168,10 @@ divided text operations e = grind (arith, whole, each_is, lettered)
 -- Lemmas on what is written early of masked sequences.
 
 module _ (how : MaskHow) (names : List (List ℕ)) (second : Good Feature) where
-  late_decided : (line : SequenceLine) (seen more : List Feature) → items_in second ≡ seen ++ more → line_decided line seen ≡ true → line_decided line (items_in second) ≡ true
-  late_decided line seen more is e = ap (line_decided line) is ∙ decided_stays line seen more e
-
   all_stay : (first : List SequenceLine) (seen more : List Feature) → items_in second ≡ seen ++ more → AreInBlocks (seen ++ more)
       → AllByRecursion (StaysDecided (early_mask_rule how seen) (mask_rule how names second)) first
   all_stay [] seen more is placed = tt
-  all_stay (line ∷ lines) seen more is placed = grind (arith, late_decided, masked_stay, (all_stay lines seen more is placed))
+  all_stay (line ∷ lines) seen more is placed = grind (arith, masked_stay, decided_stays, (all_stay lines seen more is placed))
 
   pub all_decided : (first : List SequenceLine) → second.fault ≡ None → list_all (mask_rule how names second).decided first ≡ true
   all_decided [] e = refl

@@ -18,10 +18,6 @@ use Rattle.bt_bed.specs.inside.RankTotal.{ranks_total}
 
 -- the first element that passes
 module _ {A : Type 0} where
-  found_here : (test : A → Bool) (x : A) (xs : List A) → test x ≡ true
-      → (find test (x ∷ xs) ≡ Some x) × (position_or_len test (x ∷ xs) ≡ 0)
-  found_here test x xs t = grind arith
-
   found_later : (test : A → Bool) (x : A) (xs : List A) → test x ≡ false
       → (find test (x ∷ xs) ≡ find test xs)
       × (position_or_len test (x ∷ xs) ≡ 1 + position_or_len test xs)
@@ -39,7 +35,7 @@ module _ {A : Type 0} where
   found_last : (test : A → Bool) (xs : List A) (y : A) → AllByRecursion (λ x. test x ≡ false) xs
       → test y ≡ true
       → (find test (xs ++ y ∷ []) ≡ Some y) × (position_or_len test (xs ++ y ∷ []) ≡ length xs)
-  found_last test [] y e t = found_here test y [] t
+  found_last test [] y e t = grind (arith, position_or_len)
   found_last test (x ∷ xs) y e t = grind (arith, (found_last test xs y e.1 t))
 
   found_below : (test : A → Bool) (xs : List A) → Some_of (λ x. test x ≡ true) xs
