@@ -8,7 +8,7 @@ use Rattle.bt_tool.specs.calls.Run.{Runs}
 use Rattle.bt_tool.specs.model.Options.{PlanSeen}
 use Rattle.bt_tool.specs.model.Report.{fault_text, status_of}
 use Rattle.bt_tool.specs.model.Table.{Word, tool_name, tool_of}
-use Rattle.bedtools.specs.Message.{Says, cannot_open_text}
+use Rattle.bedtools.specs.Message.{Says, cannot_open_text, message_seen}
 use Rattle.bedtools.specs.declared.files.Files.{Ghosts as Files}
 use Rattle.bedtools.specs.declared.message.Message.{Message}
 
@@ -18,7 +18,7 @@ IsFile plan name =
     (plan.names.genome ≡ Some name)
     ⊎ ((plan.names.first ≡ name) ⊎ ((plan.names.second ≡ Some name) ⊎ (plan.names.output ≡ Some name)))
 
--- a run ended with this fault, or without one: then nothing is said, with status 0
+-- a run ended with this fault, or without one
 abbrev pub ReportsRun : PlanSeen → Option FaultValue → Message → Type 0
 ReportsRun plan fault message =
     Says (unwrap_or (option_map (fault_text plan) fault) []) (status_of fault) message
@@ -60,12 +60,15 @@ module _ {F I O : Type 0} (ghosts : Files F I O) where
           genome_after first_after second_after out_after
       pub flushed : (fault ≡ Some write_failed) ⊎ (sink.is_flushed out_after ≡ true)
 
-    -- that is reported
-    pub record ReportsItsRun (files : F) (plan : PlanSeen) (message : Message) : Type 0 where
+    -- that is reported, and the output is as it was then
+    pub record ReportsItsRun (files : F) (plan : PlanSeen) (message : Message) (left : Option O) : Type 0 where
       pub fault : Option FaultValue
       pub comes : ComesOfRun files plan fault
+      pub left_so : left ≡ Some comes.out_after
       pub reports : ReportsRun plan fault message
+      pub well : fault ≡ None → message_seen message.line ≡ [] × message.status ≡ 0
 
-    -- the plan was carried out, or couldn't be
-    abbrev pub Ends : F → PlanSeen → Message → Type 0
-    Ends files plan message = CannotBegin files plan message ⊎ ReportsItsRun files plan message
+    -- the plan was carried out, or couldn't be, and what was left of its output
+    abbrev pub Ends : F → PlanSeen → Message → Option O → Type 0
+    Ends files plan message left =
+        (CannotBegin files plan message × (left ≡ None)) ⊎ ReportsItsRun files plan message left

@@ -34,7 +34,7 @@ abbrev pub opened_is_standard : Opened → Bool
 opened_is_standard (File source) = false
 opened_is_standard (Standard source) = true
 
--- an input of which nothing was read: standard input, or a file, as its name says
+-- an input of which no read has failed or told the end: standard input, or a file, as its name says
 pub record IsUnused (name : List ℕ) (input : Opened) : Type 0 where
   pub served : opened_has_failed input ≡ false
   pub going : opened_end_told input ≡ false

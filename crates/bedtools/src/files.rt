@@ -14,13 +14,14 @@ pub enum Unopened {
     Refused,
 }
 
-/// Opens inputs by their names, and makes the output. What a run does is proved over any of them.
-pub trait Files {
+/// Opens inputs by their names, and then makes the one output, for which it is given away. What a run does is proved over any
+/// of them.
+pub trait Files: Drop {
     type Input: Source + Drop;
 
     type Output: Sink + Drop;
 
-    // The input is that of this name, and nothing of it was read.
+    // The input is what was opened by this name.
     ghost opens: { Self → List ℕ → Self.Input → Type 0 };
 
     // The output is the file of this name, or standard output.
@@ -35,12 +36,12 @@ pub trait Files {
         ensures refuses { IfErr result (λ _. refuses self.now name.now) };
 
     /// Standard output.
-    fn standard_output(&self) -> Self::Output
-        ensures { creates self.now None result };
+    fn standard_output(self) -> Self::Output
+        ensures { creates self None result };
 
     /// Creates the output of a plan, which has this name, or empties it if it exists. An input of the plan isn't touched:
     /// that is refused.
-    fn create(&self, plan: &Plan, name: &str) -> Result<Self::Output, Unopened>
-        ensures creates { IfOk result (creates self.now (Some name.now)) }
-        ensures refuses { IfErr result (λ _. refuses self.now name.now) };
+    fn create(self, plan: &Plan, name: &str) -> Result<Self::Output, Unopened>
+        ensures creates { IfOk result (creates self (Some name.now)) }
+        ensures refuses { IfErr result (λ _. refuses self name.now) };
 }

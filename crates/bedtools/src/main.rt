@@ -66,7 +66,7 @@ fn main(rt: HostRuntime) -> ExitCode {
 // Reads the words of the command line and starts with them.
 fn start_by_words(rt: &HostRuntime) -> Message {
     match words(rt) {
-        Ok(words) => start(rt.alloc(), &SystemFiles { rt }, words.as_slice()),
+        Ok(words) => start(rt.alloc(), SystemFiles { rt }, words.as_slice()).message,
         Err(error) if error.kind() == io::ErrorKind::OutOfMemory => Message::no_memory(),
         Err(_) => Message::of(rt.alloc(), &Obstacle::NotUnicode),
     }
@@ -81,31 +81,49 @@ fn words(rt: &HostRuntime) -> io::Result<Vec<String>> {
     Ok(all)
 }
 
-// Makes the plan and carries it out over these files. The result is what standard error is to say, and the exit
-// status, here and below.
-fn start<F: Files>(alloc: Global, files: &F, words: &[String]) -> Message
+// How a command line ended. What standard error is to say is a `Message`, here and below.
+#[derive(Drop)]
+struct Finished<O> {
+    message: Message,
+    // The output as the run left it, if there was a run.
+    output: Option<O>,
+}
+
+// Makes the plan and carries it out over these files.
+fn start<F: Files>(alloc: Global, files: F, words: &[String]) -> Finished<F::Output>
     ensures usage { (usage : Usage) → options (words_seen words.now) ≡ Err usage
-        → Says (usage_text (words_seen words.now) usage) 2 result }
+        → Says (usage_text (words_seen words.now) usage) 2 result.message × (result.output ≡ None) }
     ensures run { (plan : PlanSeen) → options (words_seen words.now) ≡ Ok plan
-        → Ends F.Files F.Input.Source F.Output.Sink files.now plan result ⊎ SaysNoMemory result }
+        → Ends F.Files F.Input.Source F.Output.Sink files plan result.message result.output
+        ⊎ (SaysNoMemory result.message × (result.output ≡ None)) }
 {
-    match plan(alloc, words) {
-        Ok(plan) => carry_out(alloc, files, &plan),
+    let message = match plan(alloc, words) {
+        Ok(plan) => return carry_out(alloc, files, &plan),
         Err(Refusal::Usage(usage)) => Message::of(alloc, &Obstacle::Usage(words, usage)),
         Err(Refusal::NoMemory) => Message::no_memory(),
+    };
+    Finished {
+        message,
+        output: None,
     }
 }
 
 // Opens the files of a plan, the genome file first and the output last, and runs it.
-fn carry_out<F: Files>(alloc: Global, files: &F, plan: &Plan) -> Message
-    ensures { Ends F.Files F.Input.Source F.Output.Sink files.now (plan_seen plan.now) result }
+fn carry_out<F: Files>(alloc: Global, files: F, plan: &Plan) -> Finished<F::Output>
+    ensures { Ends F.Files F.Input.Source F.Output.Sink files (plan_seen plan.now) result.message result.output }
 {
     match open_files(alloc, files, plan) {
         Ok(opened) => {
             let ended = run_over(alloc, plan, opened);
-            end_of(alloc, plan, &ended.outcome)
+            Finished {
+                message: end_of(alloc, plan, &ended.outcome),
+                output: Some(ended.out),
+            }
         }
-        Err(message) => message,
+        Err(message) => Finished {
+            message,
+            output: None,
+        },
     }
 }
 
@@ -143,20 +161,20 @@ fn run_over<I: Source, O: Sink>(
 // Opens the files of a plan, of which nothing is read. `Err` if one can't be opened.
 fn open_files<F: Files>(
     alloc: Global,
-    files: &F,
+    files: F,
     plan: &Plan,
 ) -> Result<OpenedFiles<F::Input, F::Output>, Message>
-    ensures genome { IfOk result (λ opened. OpensIf F.Files files.now (plan_seen plan.now).names.genome opened.genome) }
-    ensures first { IfOk result (λ opened. F.opens files.now (plan_seen plan.now).names.first opened.first) }
-    ensures second { IfOk result (λ opened. OpensIf F.Files files.now (plan_seen plan.now).names.second opened.second) }
-    ensures output { IfOk result (λ opened. F.creates files.now (plan_seen plan.now).names.output opened.output) }
+    ensures genome { IfOk result (λ opened. OpensIf F.Files files (plan_seen plan.now).names.genome opened.genome) }
+    ensures first { IfOk result (λ opened. F.opens files (plan_seen plan.now).names.first opened.first) }
+    ensures second { IfOk result (λ opened. OpensIf F.Files files (plan_seen plan.now).names.second opened.second) }
+    ensures output { IfOk result (λ opened. F.creates files (plan_seen plan.now).names.output opened.output) }
     ensures has_genome { IfOk result (λ opened. is_some opened.genome ≡ is_some plan.now.genome) }
     ensures has_second { IfOk result (λ opened. is_some opened.second ≡ is_some plan.now.second) }
-    ensures unopened { IfErr result (CannotBegin F.Files files.now (plan_seen plan.now)) }
+    ensures unopened { IfErr result (CannotBegin F.Files files (plan_seen plan.now)) }
 {
-    let genome = open_if_named(alloc, files, plan, &plan.genome)?;
-    let first = open(alloc, files, plan, plan.first.as_str())?;
-    let second = open_if_named(alloc, files, plan, &plan.second)?;
+    let genome = open_if_named(alloc, &files, plan, &plan.genome)?;
+    let first = open(alloc, &files, plan, plan.first.as_str())?;
+    let second = open_if_named(alloc, &files, plan, &plan.second)?;
     let output = open_output(alloc, files, plan)?;
     Ok(OpenedFiles {
         genome,
@@ -167,10 +185,10 @@ fn open_files<F: Files>(
 }
 
 // Creates the output file of a plan, or takes standard output if it has none. `Err` if it can't be created.
-fn open_output<F: Files>(alloc: Global, files: &F, plan: &Plan) -> Result<F::Output, Message>
-    ensures creates { IfOk result (F.creates files.now (plan_seen plan.now).names.output) }
+fn open_output<F: Files>(alloc: Global, files: F, plan: &Plan) -> Result<F::Output, Message>
+    ensures creates { IfOk result (F.creates files (plan_seen plan.now).names.output) }
     ensures reports { IfErr result (λ message. (word : Word) × ((plan_seen plan.now).names.output ≡ Some word)
-        × ReportsUnopened F.Files files.now (plan_seen plan.now) word message) }
+        × ReportsUnopened F.Files files (plan_seen plan.now) word message) }
 {
     let Some(name) = &plan.output else {
         return Ok(files.standard_output());
@@ -222,7 +240,7 @@ fn cannot_open(alloc: Global, plan: &Plan, name: &str) -> Message
 // How a run ended: its fault, if there is one, is reported.
 fn end_of(alloc: Global, plan: &Plan, outcome: &Outcome) -> Message
     ensures fault { ReportsRun (plan_seen plan.now) (option_map fault_value outcome.now.fault) result }
-    ensures none { outcome.now.fault ≡ None → message_seen result.line ≡ [] × result.status ≡ 0 }
+    ensures none { option_map fault_value outcome.now.fault ≡ None → message_seen result.line ≡ [] × result.status ≡ 0 }
 {
     let line = match outcome.fault_line(alloc, plan) {
         Ok(Some(line)) => MessageLine::Text(line),
@@ -278,7 +296,7 @@ mod tests {
         for word in command.split_whitespace() {
             words.push(String::from_str(rt.alloc(), word)?)?;
         }
-        Ok(start(rt.alloc(), &SystemFiles { rt }, words.as_slice()))
+        Ok(start(rt.alloc(), SystemFiles { rt }, words.as_slice()).message)
     }
 
     fn expect(rt: &impl Abort, message: &Message, end: &str, row: &str) {

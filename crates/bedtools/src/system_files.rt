@@ -34,11 +34,11 @@ impl Files for SystemFiles<'_> {
         }
     }
 
-    fn standard_output(&self) -> Output {
+    fn standard_output(self) -> Output {
         Output::standard(self.rt)
     }
 
-    fn create(&self, plan: &Plan, name: &str) -> Result<Output, Unopened> {
+    fn create(self, plan: &Plan, name: &str) -> Result<Output, Unopened> {
         if is_input(self.rt, plan, name) {
             return Err(Unopened::Refused);
         }

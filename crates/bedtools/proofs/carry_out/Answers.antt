@@ -1,5 +1,6 @@
 use Rattle.std.specs.Prelude.{option_map}
 use Rattle.std.proofs.Common.{inr}
+use Rattle.bt_lines.proofs.Std.{refl}
 use Rattle.bt_lines.specs.calls.Names.{fault_value}
 use Rattle.bedtools.proofs.carry_out.Goals as goal
 
@@ -22,5 +23,7 @@ returns-in-Ok g c = inr (record {
     runs = c.run_over-ended.ensures.report;
     flushed = c.run_over-ended.ensures.flushed;
   };
+  left_so = refl;
   reports = c.end_of.ensures.fault;
+  well = c.end_of.ensures.none;
 })
