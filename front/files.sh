@@ -3,9 +3,8 @@
 # before its end, or finds no room, has to be seen: a tool by its status, or by a last line that only it writes.
 
 # open_files NAME..: opens an empty file for each, and sets `dk_NAME` to where it is. Its name in TMPDIR is gone by
-# then, so that nothing is left of it, however this ends. A ksh keeps what it opens from what it runs.
+# then, so that nothing is left of it, however this ends.
 open_files() {
-    [ -z "${KSH_VERSION-}" ] || return
     dk_folder=$(mktemp -d "${TMPDIR:-/tmp}/dunekettle-XXXXXX" 2> /dev/null) || {
         # One that was killed may have made it. Half of a name is no name.
         case $dk_folder in "${TMPDIR:-/tmp}"/dunekettle-??????) rm -rf "$dk_folder" ;; esac

@@ -59,7 +59,7 @@ look_at() {
 # find_spans FILE [GENOME]: fills `dk_spans`, or sets `dk_why`
 find_spans() {
     "$dk_program" merge -d "$dk_far" -i "$1" ${2:+-g "$2"} < /dev/null > "$dk_spans" 2> "$dk_spare" &
-    await $! || failed "$(tail -n 1 "$dk_spare")"
+    await $! || failed "$(tail -n 1 < "$dk_spare")"
 }
 
 # look_at_names FILE: chromosomes that bedtools passes over, ends for which its bins may lack a hit, and names that all
