@@ -37,8 +37,9 @@ find_copies() {
         [ "$dk_kind" != stream ] || count_stream "$dk_word"
         dk_before=$dk_word
     done
-    if [ "$dk_streams" = 0 ]; then return
-    elif streams_are_known; then dk_copied=known
+    if [ "$dk_streams" != 0 ] && streams_are_known; then dk_copied=known
+    elif [ -n "$dk_copied" ] && [ -n "${KSH_VERSION-}" ]; then dk_why='a ksh keeps what it opens from what it runs'
+    elif [ "$dk_streams" = 0 ]; then return
     elif [ -n "$dk_odd" ]; then dk_why=$dk_odd
     elif [ "$dk_streams" -gt 2 ]; then dk_why='more than two of its inputs are streams'
     elif [ "$dk_room" = 0 ]; then dk_why='DUNEKETTLE_ROOM is 0'
