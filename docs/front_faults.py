@@ -34,7 +34,8 @@ SCRIPTS = (
     "CAT a.bed | bedtools merge", "bedtools intersect -u -a <(CAT a.bed) -b <(CAT b.bed)", "bedtools genomecov -bga -i <(CAT natural.bed) -g <(CAT g.txt)",
     "CAT a.bed | DUNEKETTLE_ROOM=500 bedtools merge", "DUNEKETTLE_ROOM=500 bedtools intersect -sorted -u -a <(CAT a.bed) -b <(CAT b.bed)",
     "DUNEKETTLE_ROOM=500 bedtools intersect -sorted -c -a <(CAT a.bed) -b <(SLEEP 0.3; CAT few.bed)", "CAT a.bed.gz | bedtools merge -i -",
-    *(f"RM -f p q; MKFIFO p q; TIMEOUT 20 BASH -c 'CAT a.bed > p; CAT b.bed > q' > /dev/null 2>&1 & {room}bedtools intersect -sorted -u -a p -b q" for room in ("", "DUNEKETTLE_ROOM=500 ")),
+    *(f"RM -f {p} {q}; MKFIFO {p} {q}; TIMEOUT 20 BASH -c 'CAT a.bed > {p}; CAT b.bed > {q}' > /dev/null 2>&1 & {room}bedtools intersect -sorted -u -a {p} -b {q}"
+      for room, p, q in (("", "p", "q"), ("DUNEKETTLE_ROOM=500 ", "r", "s"))),
 )
 NAMES = ("chr1", "chr10", "chr2", "chr3", "chrX")
 NATURAL = ("chr1", "chr2", "chr3", "chr10", "chrX")
