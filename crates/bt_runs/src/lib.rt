@@ -37,6 +37,7 @@ mod engine;
 #[cfg(test)]
 mod example;
 mod merge;
+#[cfg(test)]
 mod plain;
 #[cfg(test)]
 mod tests;

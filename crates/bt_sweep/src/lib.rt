@@ -38,6 +38,7 @@ mod active;
 mod example;
 mod hits;
 mod output;
+#[cfg(test)]
 mod plain;
 mod sweep;
 #[cfg(test)]

@@ -59,7 +59,7 @@ fn begins_with(bytes: &[u8], name: &[u8], key: PackedName) -> bool
     begins_with_long(bytes, name)
 }
 
-// The same for a name of any length, by the tab after it and then the name.
+// Whether a name of any length and a tab come first: it looks at the tab, and then at the name.
 #[inline(always)]
 #[tactic(auto, using(crate::proofs::lemmas::read::ColumnLemmas::name_in_front))]
 pub(crate) fn begins_with_long(bytes: &[u8], name: &[u8]) -> bool

@@ -35,7 +35,7 @@ pub(crate) fn behind(text: &[u8], from: usize) -> &[u8]
     &text[from..]
 }
 
-// The same as `third_column` of a short text: with tabs after it, so that each search ends among its first bytes.
+// `third_column` of a short text: with tabs after it, so that each search ends among its first bytes.
 fn short_third_column(text: &[u8]) -> Strand
     requires { length text.now ≤ 32 }
     ensures { result ≡ strand_of (pieces 9 text.now) }

@@ -43,7 +43,8 @@ pub fn length_before(byte: u8, text: &[u8]) -> usize
     late_length(byte, text, NEAR)
 }
 
-// The same when it isn't among the first `from` bytes. It returns a number, for which the caller makes no room.
+// How many bytes come before a byte that isn't among the first `from`. It returns a number, for which the caller makes
+// no room.
 #[inline(never)]
 fn late_length(byte: u8, text: &[u8], from: usize) -> usize
     requires within { from ≤ length text.now }
@@ -53,7 +54,7 @@ fn late_length(byte: u8, text: &[u8], from: usize) -> usize
     from + rest_length(byte, &text[from..])
 }
 
-// The same of the bytes after those: it is looked for among the next ones, and then further on.
+// How many of the bytes after those come before it: it is looked for among the next thirty-two, and then further on.
 #[inline(always)]
 fn rest_length(byte: u8, rest: &[u8]) -> usize
     ensures { IsBefore byte rest.now result }
@@ -70,7 +71,8 @@ fn rest_length(byte: u8, rest: &[u8]) -> usize
     }
 }
 
-// The same of many bytes, by `memchr2`, which looks at 128 at once. A second call of `memchr` wouldn't be inlined.
+// How many of many bytes come before it, by `memchr2`, which looks at 128 at once. A second call of `memchr` wouldn't be
+// inlined.
 #[cold]
 #[inline(never)]
 fn far_length(byte: u8, text: &[u8]) -> usize

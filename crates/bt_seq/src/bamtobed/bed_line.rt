@@ -42,7 +42,7 @@ pub(crate) fn put_line<K: Sink>(
     put_pieces(sam, start, stop, with_cigar, out)
 }
 
-// The same for a line of any length, by two pieces.
+// Puts the line, of any length, by two pieces: its place, and what follows it.
 #[cold]
 #[inline(never)]
 fn put_pieces<K: Sink>(

@@ -131,14 +131,14 @@ abbrev pub waiting_in : {R : Type 0} → R → Result Bool Fault → Result (Opt
 waiting_in r (Ok is_left) = Ok (then_some is_left r)
 waiting_in r (Err fault) = Err fault
 
--- where a sweep stands: what it keeps, its inputs, the lines of the first that are left pending, and the output
+-- where a sweep is: what it keeps, its inputs, the lines of the first that are left pending, and the output
 pub record SweepAt (I : Type 0) : Type 0 where
   pub sweep : Sweeping
   pub inputs : I
   pub pending : List ℕ
   pub out : Output
 
--- where it stands with these lines pending
+-- where it is with these lines pending
 abbrev pub stands : {I : Type 0} → Sweeping → I → List ℕ → Output → SweepAt I
 stands sweep inputs pending out = record { sweep = sweep; inputs = inputs; pending = pending; out = out }
 

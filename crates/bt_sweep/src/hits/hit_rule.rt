@@ -10,7 +10,7 @@ pub struct HitRule {
     /// How many billionths of the first record's length the shared bases have to be at least: 0 requires no more than
     /// one shared base, and 1,000,000,000 all of the record.
     pub billionths: u64,
-    /// The same is required of the second record's length.
+    /// They have to be at least that part of the second record's length too.
     pub both: bool,
     /// The strands have to be equal; a record without a strand has the same as another without.
     pub same_strand: bool,

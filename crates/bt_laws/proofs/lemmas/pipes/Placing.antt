@@ -111,7 +111,7 @@ pub record AreInOrder (order : Order) (R : Interval → Interval → Type 0) (rs
   pub placed : ArePlaced order rs
   pub pairs : EachPair R rs
 
--- spans that ascend from a position on, each so far behind the one before, or farther
+-- spans that ascend from a position on, each so far past the one before, or farther
 abbrev pub AreSpread : ℕ → ℕ → List Span → Type 0
 AreSpread gap first [] = Unit {0}
 AreSpread gap first (s ∷ ss) = (first ≤ s.start) × (s.start < s.stop) × AreSpread gap (s.stop + gap) ss
