@@ -1,17 +1,15 @@
 -- What the plain program is said to do, in the words of the definitions.
 use Rattle.std.specs.Prelude.{ℕ, ◌+◌, ◌-◌, ◌≤◌, cond, ◌==◌, ◌&&◌, List, [], ◌∷◌, map}
-use Rattle.bt_runs.specs.declared.plain.PlainSpan.{PlainSpan}
 use Rattle.bt_bed.specs.model.Feature.{Span}
 use Rattle.bt_bed.specs.calls.Stretches.{IsCovered}
 use Rattle.bt_bed.specs.model.Levels.{Level}
-use Rattle.bt_runs.specs.declared.plain.depths.PlainDepth.{PlainDepth}
 
--- a span of the program as one of the definitions
-abbrev pub span_in : PlainSpan → Span
-span_in s = record { start = s.start; stop = s.stop }
+-- a start and a stop as a span of the definitions
+abbrev pub span_in : ℕ × ℕ → Span
+span_in s = record { start = s.0; stop = s.1 }
 
 -- each of them so
-abbrev pub spans_in : List PlainSpan → List Span
+abbrev pub spans_in : List (ℕ × ℕ) → List Span
 spans_in spans = map span_in spans
 
 -- some covered position at or past p is near `left`
@@ -34,12 +32,12 @@ abbrev pub with_next : List Span → ℕ → List Span
 with_next [] p = record { start = p; stop = p + 1 } ∷ []
 with_next (s ∷ ss) p = with_next_after s ss p
 
--- an interval of the program as one of the definitions
-abbrev pub level_in : PlainDepth → Level
-level_in d = record { start = d.start; stop = d.stop; value = d.depth }
+-- a start, a stop and a depth as an interval of the definitions
+abbrev pub level_in : ℕ × ℕ × ℕ → Level
+level_in d = record { start = d.0; stop = d.1; value = d.2 }
 
 -- each of them so
-abbrev pub levels_in : List PlainDepth → List Level
+abbrev pub levels_in : List (ℕ × ℕ × ℕ) → List Level
 levels_in depths = map level_in depths
 
 -- the first interval and the others, with the next position and its value:

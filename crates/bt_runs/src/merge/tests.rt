@@ -172,7 +172,7 @@ fn feed_spans(
         let (start, stop) = (*start, *stop);
         let line = format!(in alloc; "c\t{start}\t{stop}")?;
         same_answer(rt, feed_line(merge, line.as_bytes(), out), Ok(()), "a span");
-        spans.push(PlainSpan { start, stop })?;
+        spans.push((start, stop))?;
     }
     Ok(spans)
 }
@@ -180,8 +180,8 @@ fn feed_spans(
 // The lines of the runs that the plain program gives.
 fn plain_lines(alloc: Global, spans: &[PlainSpan], gap: u64) -> Result<Vec<u8>, AllocError> {
     let mut lines = Vec::new(alloc);
-    for run in plain_runs(alloc, spans, gap)?.as_slice() {
-        let line = format!(in alloc; "c\t{}\t{}\n", run.start, run.stop)?;
+    for (start, stop) in plain_runs(alloc, spans, gap)?.as_slice() {
+        let line = format!(in alloc; "c\t{start}\t{stop}\n")?;
         lines.extend_from_slice(line.as_bytes())?;
     }
     Ok(lines)

@@ -7,13 +7,8 @@ ghost use Rattle.bt_runs.specs.inside.PlainRuns.{levels_in, spans_in, with_value
 use crate::plain::PlainSpan;
 use std::alloc::{AllocError, Global};
 
-/// A stretch of one chromosome whose positions have this depth.
-#[derive(Clone, Copy, Debug, PartialEq, Eq)]
-pub(crate) struct PlainDepth {
-    pub(crate) start: u64,
-    pub(crate) stop: u64,
-    pub(crate) depth: u64,
-}
+/// The start and the stop of a stretch of one chromosome, and the depth of its positions.
+pub(crate) type PlainDepth = (u64, u64, u64);
 
 /// The intervals of equal depth of a chromosome of this length, with those of depth 0 if they are wanted. The spans may
 /// come in any order.
@@ -37,11 +32,11 @@ pub(crate) fn plain_depths(
 
 // How many spans cover a position.
 fn depth_at(spans: &[PlainSpan], position: u64) -> u64
-    ensures { result ≡ length (filter (λ s. nat_le s.start position && nat_lt position s.stop) spans.now) }
+    ensures { result ≡ length (filter (λ s. nat_le s.0 position && nat_lt position s.1) spans.now) }
 {
     spans
         .iter()
-        .filter(|span| span.start <= position && position < span.stop)
+        .filter(|(start, stop)| *start <= position && position < *stop)
         .count() as u64
 }
 
@@ -51,18 +46,14 @@ fn add_depth(depths: &mut Vec<PlainDepth>, position: u64, depth: u64) -> Result<
     requires { position + 1 < 2 ^ 64 }
     ensures { OnOk result (levels_in depths.new.items ≡ with_value (levels_in depths.old.items) position depth) }
 {
-    let mut next = PlainDepth {
-        start: position,
-        stop: position + 1,
-        depth,
-    };
-    if let Some(last) = depths.pop() {
-        if last.stop == position && last.depth == depth {
-            next.start = last.start;
+    let mut first = position;
+    if let Some((start, stop, last)) = depths.pop() {
+        if stop == position && last == depth {
+            first = start;
         } else {
-            depths.push(last)?;
+            depths.push((start, stop, last))?;
         }
     }
-    depths.push(next)?;
+    depths.push((first, position + 1, depth))?;
     Ok(())
 }

@@ -12,12 +12,8 @@ ghost use Rattle.std.specs.Prelude.{◌≡◌, ◌↔◌, ◌+◌, ◌<◌, ◌�
 
 use std::alloc::{AllocError, Global};
 
-/// A stretch of one chromosome. Positions count from zero, and the stop isn't included.
-#[derive(Clone, Copy, Debug, PartialEq, Eq)]
-pub(crate) struct PlainSpan {
-    pub(crate) start: u64,
-    pub(crate) stop: u64,
-}
+/// The start and the stop of a stretch of one chromosome. Positions count from zero, and the stop isn't included.
+pub(crate) type PlainSpan = (u64, u64);
 
 /// The merged runs of the spans of one chromosome, which may come in any order.
 pub(crate) fn plain_runs(
@@ -38,28 +34,28 @@ pub(crate) fn plain_runs(
 }
 
 fn greatest_stop(spans: &[PlainSpan]) -> u64
-    ensures { All (λ s. s.stop ≤ result) spans.now }
+    ensures { All (λ s. s.1 ≤ result) spans.now }
 {
     let mut end = 0;
-    for span in spans {
-        end = end.max(span.stop);
+    for (_, stop) in spans {
+        end = end.max(*stop);
     }
     end
 }
 
 pub(crate) fn is_covered(spans: &[PlainSpan], position: u64) -> bool
-    ensures { result ≡ list_any (λ s. nat_le s.start position && nat_lt position s.stop) spans.now }
+    ensures { result ≡ list_any (λ s. nat_le s.0 position && nat_lt position s.1) spans.now }
 {
     spans
         .iter()
-        .any(|span| span.start <= position && position < span.stop)
+        .any(|(start, stop)| *start <= position && position < *stop)
 }
 
 /// Whether a covered position at or past this one is near `left`.
 #[tactic(auto, using(crate::proofs::lemmas::definitions::PlainSpans::covered_at_true, crate::proofs::lemmas::definitions::PlainSpans::bare_at_false, crate::proofs::lemmas::definitions::PlainSpans::covered_below))]
 fn has_right(spans: &[PlainSpan], gap: u64, end: u64, left: u64, position: u64) -> bool
     requires past { left < position }
-    requires ended { All (λ s. s.stop ≤ end) spans.now }
+    requires ended { All (λ s. s.1 ≤ end) spans.now }
     ensures { IsTrue result ↔ HasRight gap (spans_in spans.now) left position }
 {
     for right in position..end {
@@ -72,7 +68,7 @@ fn has_right(spans: &[PlainSpan], gap: u64, end: u64, left: u64, position: u64) 
 
 #[tactic(auto, using(crate::proofs::lemmas::merge::Bridging::bridged_here, crate::proofs::lemmas::definitions::PlainSpans::covered_at_true, crate::proofs::lemmas::definitions::PlainSpans::bare_at_false))]
 fn is_bridged(spans: &[PlainSpan], gap: u64, end: u64, position: u64) -> bool
-    requires { All (λ s. s.stop ≤ end) spans.now }
+    requires { All (λ s. s.1 ≤ end) spans.now }
     ensures { IsTrue result ↔ Bridged gap (spans_in spans.now) position }
 {
     if is_covered(spans, position) {
@@ -92,18 +88,15 @@ pub(crate) fn add_position(runs: &mut Vec<PlainSpan>, position: u64) -> Result<(
     requires { position + 1 < 2 ^ 64 }
     ensures { OnOk result (spans_in runs.new.items ≡ with_next (spans_in runs.old.items) position) }
 {
-    let mut next = PlainSpan {
-        start: position,
-        stop: position + 1,
-    };
-    if let Some(run) = runs.pop() {
-        if run.stop == position {
-            next.start = run.start;
+    let mut first = position;
+    if let Some((start, stop)) = runs.pop() {
+        if stop == position {
+            first = start;
         } else {
-            runs.push(run)?;
+            runs.push((start, stop))?;
         }
     }
-    runs.push(next)?;
+    runs.push((first, position + 1))?;
     Ok(())
 }
 
@@ -133,8 +126,7 @@ mod tests {
     fn spans_of(alloc: Global, bounds: Bounds) -> Result<Vec<PlainSpan>, AllocError> {
         let mut spans = Vec::new(alloc);
         for (start, stop) in bounds {
-            let (start, stop) = (*start, *stop);
-            spans.push(PlainSpan { start, stop })?;
+            spans.push((*start, *stop))?;
         }
         Ok(spans)
     }

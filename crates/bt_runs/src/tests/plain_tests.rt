@@ -20,10 +20,7 @@ fn spans_from(alloc: Global, first: u64) -> Result<Vec<PlainSpan>, AllocError> {
     let mut spans = Vec::new(alloc);
     for start in first..SIZE {
         for before in start..SIZE {
-            spans.push(PlainSpan {
-                start,
-                stop: before + 1,
-            })?;
+            spans.push((start, before + 1))?;
         }
     }
     Ok(spans)
@@ -39,7 +36,7 @@ fn add_longer(alloc: Global, inputs: &mut Inputs, first: usize) -> Result<(), Al
         };
         let input = input.clone()?;
         let start = match input.last() {
-            Some(span) => span.start,
+            Some((start, _)) => *start,
             None => 0,
         };
         for span in spans_from(alloc, start)?.as_slice() {
@@ -73,8 +70,8 @@ fn writes<E: Engine + Drop>(
 ) -> Result<bool, AllocError> {
     let mut out = output(alloc, 512);
     let mut is_fed = true;
-    for span in spans {
-        let line = format!(in alloc; "c\t{}\t{}", span.start, span.stop)?;
+    for (start, stop) in spans {
+        let line = format!(in alloc; "c\t{start}\t{stop}")?;
         is_fed = is_fed && feed_line(&mut engine, line.as_bytes(), &mut out).is_ok();
     }
     let is_ended = engine.finish(&mut out).is_ok() && out.flush().is_ok();
@@ -84,8 +81,8 @@ fn writes<E: Engine + Drop>(
 // The lines of runs or gaps.
 fn span_lines(alloc: Global, found: &[PlainSpan]) -> Result<Vec<u8>, AllocError> {
     let mut lines = Vec::new(alloc);
-    for span in found {
-        let line = format!(in alloc; "c\t{}\t{}\n", span.start, span.stop)?;
+    for (start, stop) in found {
+        let line = format!(in alloc; "c\t{start}\t{stop}\n")?;
         lines.extend_from_slice(line.as_bytes())?;
     }
     Ok(lines)
@@ -94,8 +91,7 @@ fn span_lines(alloc: Global, found: &[PlainSpan]) -> Result<Vec<u8>, AllocError>
 // The lines of the depths that the plain program gives.
 fn depth_lines(alloc: Global, spans: &[PlainSpan], zeros: bool) -> Result<Vec<u8>, AllocError> {
     let mut lines = Vec::new(alloc);
-    for found in plain_depths(alloc, spans, SIZE, zeros)?.as_slice() {
-        let (start, stop, depth) = (found.start, found.stop, found.depth);
+    for (start, stop, depth) in plain_depths(alloc, spans, SIZE, zeros)?.as_slice() {
         let line = format!(in alloc; "c\t{start}\t{stop}\t{depth}\n")?;
         lines.extend_from_slice(line.as_bytes())?;
     }

@@ -9,7 +9,6 @@ use Rattle.bt_sweep.specs.declared.hits.hit_rule.HitRule.{HitRule}
 use Rattle.bt_sweep.specs.declared.output.shape.Shape.{Shape}
 use Rattle.bt_sweep.specs.declared.output.shape.Shape.TheVariants.{Cut, OrigA, CutAndB, OrigBoth, Overlap, Once, Missing, Count, Pieces, Whole}
 use Rattle.bt_sweep.specs.inside.Pieces.{piece_in, pieces_in}
-use Rattle.bt_sweep.specs.declared.plain.plain_pieces.PlainPiece.{PlainPiece}
 
 -- Lemmas on the lines of a record against all others.
 
@@ -54,22 +53,22 @@ module _ (a : Feature) (bs : List Feature) (shape : Shape) (rule : HitRule) wher
 -- The scan of a record's positions, from the last one on, against the definition of its pieces.
 
 -- one more was found
-pub found_push : (xs : List PlainPiece) (x : PlainPiece) → pieces_in (xs ++ x ∷ []) ≡ piece_in x ∷ pieces_in xs
+pub found_push : (xs : List (ℕ × ℕ)) (x : ℕ × ℕ) → pieces_in (xs ++ x ∷ []) ≡ piece_in x ∷ pieces_in xs
 found_push xs x = ap (map piece_in) (reverse-append xs (x ∷ []))
 
 -- the next position belongs to the last of them
-pub next_joined : (front : List PlainPiece) (piece : PlainPiece) (p : ℕ) → piece.start ≡ p + 1
-    → pieces_in (front ++ record { start = p; stop = piece.stop } ∷ []) ≡ with_position p (pieces_in (front ++ piece ∷ []))
+pub next_joined : (front : List (ℕ × ℕ)) (start stop p : ℕ) → start ≡ p + 1
+    → pieces_in (front ++ (p, stop) ∷ []) ≡ with_position p (pieces_in (front ++ (start, stop) ∷ []))
 unfolding with_position
-next_joined front piece p e = grind (arith, found_push)
+next_joined front start stop p e = grind (arith, found_push)
 
 -- or is the first one of another
-pub next_apart : (front : List PlainPiece) (piece : PlainPiece) (p : ℕ) → (piece.start ≡ p + 1 → ⊥)
-    → pieces_in ((front ++ piece ∷ []) ++ record { start = p; stop = p + 1 } ∷ []) ≡ with_position p (pieces_in (front ++ piece ∷ []))
+pub next_apart : (front : List (ℕ × ℕ)) (start stop p : ℕ) → (start ≡ p + 1 → ⊥)
+    → pieces_in ((front ++ (start, stop) ∷ []) ++ (p, p + 1) ∷ []) ≡ with_position p (pieces_in (front ++ (start, stop) ∷ []))
 unfolding with_position
-next_apart front piece p other = grind (arith, found_push)
+next_apart front start stop p other = grind (arith, found_push)
 
-pub first_found : (p : ℕ) → pieces_in (record { start = p; stop = p + 1 } ∷ []) ≡ with_position p []
+pub first_found : (p : ℕ) → pieces_in ((p, p + 1) ∷ []) ≡ with_position p []
 unfolding with_position
 first_found p = refl
 

@@ -2,7 +2,6 @@
 use Rattle.std.specs.Prelude.{ℕ, List, [], ◌∷◌, ◌++◌, cond, max, nat_lt, map, reverse}
 use Rattle.bt_bed.specs.model.Feature.{Feature, Span}
 use Rattle.bt_sweep.specs.model.Lines.{piece_line}
-use Rattle.bt_sweep.specs.declared.plain.plain_pieces.PlainPiece.{PlainPiece}
 
 -- A walk over the records that hit one, by their starts: what it writes of the pieces between them.
 
@@ -23,10 +22,10 @@ lines_before a free (b ∷ bs) = gap_lines a free b.start ++ lines_before a (max
 
 -- What the plain program finds, in the words of the definitions.
 
--- a piece of the program as one of the definitions
-abbrev pub piece_in : PlainPiece → Span
-piece_in piece = record { start = piece.start; stop = piece.stop }
+-- a start and a stop as a piece of the definitions
+abbrev pub piece_in : ℕ × ℕ → Span
+piece_in piece = record { start = piece.0; stop = piece.1 }
 
 -- the pieces, which were found from the last one on
-abbrev pub pieces_in : List PlainPiece → List Span
+abbrev pub pieces_in : List (ℕ × ℕ) → List Span
 pieces_in found = map piece_in (reverse found)

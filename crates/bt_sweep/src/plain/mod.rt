@@ -143,8 +143,8 @@ fn write_pieces(
         (pieces (feature_lent a.now) (hits_among rule (feature_lent a.now) second.now))) }
 {
     let mut found = find_pieces(*text.allocator(), rule, a, second)?;
-    while let Some(piece) = found.pop() {
-        write_line(a, piece.start, piece.stop, text)?;
+    while let Some((start, stop)) = found.pop() {
+        write_line(a, start, stop, text)?;
     }
     Ok(())
 }

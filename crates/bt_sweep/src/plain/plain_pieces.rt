@@ -13,12 +13,8 @@ use crate::plain::hits;
 use bt_bed::{BedRef, Rec};
 use std::alloc::{AllocError, Global};
 
-// A stretch of a chromosome. Positions count from zero, and the stop isn't included.
-#[derive(Clone, Copy)]
-pub(crate) struct PlainPiece {
-    pub(crate) start: u64,
-    pub(crate) stop: u64,
-}
+// The start and the stop of a stretch of a chromosome. Positions count from zero, and the stop isn't included.
+pub(crate) type PlainPiece = (u64, u64);
 
 // The pieces of a record without the bases of those that hit it, the last one first.
 #[tactic(auto, using(crate::proofs::lemmas::Plain::scan_all, crate::proofs::lemmas::Plain::scan_next, crate::proofs::lemmas::Plain::scan_none))]
@@ -69,17 +65,14 @@ fn add_position(found: &mut Vec<PlainPiece>, position: u64) -> Result<(), AllocE
     requires { position + 1 < 2 ^ 64 }
     ensures { OnOk result (pieces_in found.new.items ≡ with_position position (pieces_in found.old.items)) }
 {
-    let mut next = PlainPiece {
-        start: position,
-        stop: position + 1,
-    };
-    if let Some(piece) = found.pop() {
-        if piece.start == position + 1 {
-            next.stop = piece.stop;
+    let mut end = position + 1;
+    if let Some((start, stop)) = found.pop() {
+        if start == position + 1 {
+            end = stop;
         } else {
-            found.push(piece)?;
+            found.push((start, stop))?;
         }
     }
-    found.push(next)?;
+    found.push((position, end))?;
     Ok(())
 }

@@ -1,7 +1,5 @@
 -- What the plain program for depths adds, against the definition of intervals of equal value.
 use Rattle.bt_lines.proofs.Std.{◌≡◌, ℕ, ◌+◌, ◌-◌, ◌<◌, ◌≤◌, ◌⊎◌, inl, inr, List, [], ◌∷◌, ◌++◌, append_assoc, refl, ap, arith, map-append, Option, Some, None, length, filter, nat_le, nat_lt, ◌&&◌, Bool, true, false}
-use Rattle.bt_runs.specs.declared.plain.PlainSpan.{PlainSpan}
-use Rattle.bt_runs.specs.declared.plain.depths.PlainDepth.{PlainDepth}
 use Rattle.bt_bed.specs.model.Levels.{AreDisjointFrom, AreLevelsOf, HasValue, Level}
 use Rattle.bt_runs.specs.model.Depth.{depth_at, depth_of, levels_of, the_levels}
 use Rattle.bt_runs.specs.inside.PlainRuns.{levels_in, spans_in, with_value_after, with_value}
@@ -39,23 +37,23 @@ with_value-last : (xs : List Level) (l : Level) (p v : ℕ) → with_value (xs +
 with_value-last [] l p v = refl
 with_value-last (x ∷ xs) l p v = with_value_after-last x xs l p v
 
-pub depth_joined : (front : List PlainDepth) (last : PlainDepth) (p v : ℕ) → last.stop ≡ p → last.depth ≡ v → levels_in (front ++ record { start = last.start; stop = p + 1; depth = v } ∷ []) ≡ with_value (levels_in (front ++ last ∷ [])) p v
-depth_joined front last p v ends same = grind (arith, map-append, with_value-last)
+pub depth_joined : (front : List (ℕ × ℕ × ℕ)) (start stop depth p v : ℕ) → stop ≡ p → depth ≡ v → levels_in (front ++ (start, p + 1, v) ∷ []) ≡ with_value (levels_in (front ++ (start, stop, depth) ∷ [])) p v
+depth_joined front start stop depth p v ends same = grind (arith, map-append, with_value-last)
 
-pub depth_apart : (front : List PlainDepth) (last : PlainDepth) (p v : ℕ) → (last.stop ≡ p → last.depth ≡ v → ⊥) → levels_in ((front ++ last ∷ []) ++ record { start = p; stop = p + 1; depth = v } ∷ []) ≡ with_value (levels_in (front ++ last ∷ [])) p v
-depth_apart front last p v other = grind (arith, map-append, append_assoc, with_value-last)
+pub depth_apart : (front : List (ℕ × ℕ × ℕ)) (start stop depth p v : ℕ) → (stop ≡ p → depth ≡ v → ⊥) → levels_in ((front ++ (start, stop, depth) ∷ []) ++ (p, p + 1, v) ∷ []) ≡ with_value (levels_in (front ++ (start, stop, depth) ∷ [])) p v
+depth_apart front start stop depth p v other = grind (arith, map-append, append_assoc, with_value-last)
 
 -- as many of the program's spans cover a position
-as_deep : (spans : List PlainSpan) (p : ℕ) → length (filter (λ s. nat_le s.start p && nat_lt p s.stop) spans) ≡ depth_at (spans_in spans) p
+as_deep : (spans : List (ℕ × ℕ)) (p : ℕ) → length (filter (λ s. nat_le s.0 p && nat_lt p s.1) spans) ≡ depth_at (spans_in spans) p
 as_deep [] p = refl
 as_deep (s ∷ ss) p = grind (arith, (as_deep ss p))
 
 -- whether the depth that the program counts is reported
-pub depth_reported : (zeros : Bool) (spans : List PlainSpan) (p d : ℕ) → d ≡ length (filter (λ s. nat_le s.start p && nat_lt p s.stop) spans) → (zeros ≡ true) ⊎ (0 < d) → depth_of zeros (spans_in spans) p ≡ Some d
+pub depth_reported : (zeros : Bool) (spans : List (ℕ × ℕ)) (p d : ℕ) → d ≡ length (filter (λ s. nat_le s.0 p && nat_lt p s.1) spans) → (zeros ≡ true) ⊎ (0 < d) → depth_of zeros (spans_in spans) p ≡ Some d
 unfolding depth_of
 depth_reported zeros spans p d is some = rw (← as_deep spans p, ← is) (grind arith)
 
-pub depth_unreported : (zeros : Bool) (spans : List PlainSpan) (p d : ℕ) → d ≡ length (filter (λ s. nat_le s.start p && nat_lt p s.stop) spans) → zeros ≡ false → d ≡ 0 → depth_of zeros (spans_in spans) p ≡ None
+pub depth_unreported : (zeros : Bool) (spans : List (ℕ × ℕ)) (p d : ℕ) → d ≡ length (filter (λ s. nat_le s.0 p && nat_lt p s.1) spans) → zeros ≡ false → d ≡ 0 → depth_of zeros (spans_in spans) p ≡ None
 unfolding depth_of
 depth_unreported zeros spans p d is none empty = rw (← as_deep spans p, ← is, none, empty) refl
 

@@ -1,6 +1,5 @@
 -- What the plain programs ask of their spans, and the scans of a chromosome's positions, against the definitions of runs and gaps.
 use Rattle.bt_lines.proofs.Std.{◌≡◌, ℕ, ◌+◌, ◌-◌, ◌<◌, ◌≤◌, ◌⊎◌, inl, inr, List, [], ◌∷◌, ◌++◌, append_assoc, refl, sym, ap, ◌∙◌, arith, Bool, true, false, ◌&&◌, Decides, nat_le, nat_lt, All, list_any, false≢true, cases_lt, subst, Decides-and, Decides-or, Decides-ltb, map-append, All-head, All-tail}
-use Rattle.bt_runs.specs.declared.plain.PlainSpan.{PlainSpan}
 use Rattle.bt_bed.specs.model.Feature.{Span}
 use Rattle.bt_bed.specs.calls.Stretches.{IsCovered, AreApartFrom, AreStretchesOf}
 use Rattle.bt_runs.specs.model.Gaps.{gaps_of}
@@ -11,21 +10,21 @@ use Rattle.bt_runs.specs.inside.PlainRuns.{spans_in, with_next_after, with_next}
 use Rattle.bt_runs.proofs.lemmas.merge.Bridging.{Decides-le, only_runs}
 
 -- the program's test of a covered position
-pub covers-Decides : (spans : List PlainSpan) (p : ℕ) → Decides (list_any (λ s. nat_le s.start p && nat_lt p s.stop) spans) (IsCovered (spans_in spans) p)
+pub covers-Decides : (spans : List (ℕ × ℕ)) (p : ℕ) → Decides (list_any (λ s. nat_le s.0 p && nat_lt p s.1) spans) (IsCovered (spans_in spans) p)
 covers-Decides [] p = (λ e. false≢true e, λ w. absurd w)
-covers-Decides (s ∷ ss) p = Decides-or (nat_le s.start p && nat_lt p s.stop) (list_any (λ s. nat_le s.start p && nat_lt p s.stop) ss) (Decides-and (nat_le s.start p) (nat_lt p s.stop) (Decides-le s.start p) (Decides-ltb p s.stop)) (covers-Decides ss p)
+covers-Decides (s ∷ ss) p = Decides-or (nat_le s.0 p && nat_lt p s.1) (list_any (λ s. nat_le s.0 p && nat_lt p s.1) ss) (Decides-and (nat_le s.0 p) (nat_lt p s.1) (Decides-le s.0 p) (Decides-ltb p s.1)) (covers-Decides ss p)
 
-pub covered_at_true : (spans : List PlainSpan) (p : ℕ) (r : Bool) → r ≡ list_any (λ s. nat_le s.start p && nat_lt p s.stop) spans → r ≡ true → IsCovered (spans_in spans) p
+pub covered_at_true : (spans : List (ℕ × ℕ)) (p : ℕ) (r : Bool) → r ≡ list_any (λ s. nat_le s.0 p && nat_lt p s.1) spans → r ≡ true → IsCovered (spans_in spans) p
 covered_at_true spans p r is t = (covers-Decides spans p).0 (sym is ∙ t)
 
-pub bare_at_false : (spans : List PlainSpan) (p : ℕ) (r : Bool) → r ≡ list_any (λ s. nat_le s.start p && nat_lt p s.stop) spans → r ≡ false → IsCovered (spans_in spans) p → ⊥
+pub bare_at_false : (spans : List (ℕ × ℕ)) (p : ℕ) (r : Bool) → r ≡ list_any (λ s. nat_le s.0 p && nat_lt p s.1) spans → r ≡ false → IsCovered (spans_in spans) p → ⊥
 bare_at_false spans p r is f c = false≢true (sym f ∙ is ∙ (covers-Decides spans p).1 c)
 
 -- no span ends past `end`
-pub covered_below : (end : ℕ) (spans : List PlainSpan) (p : ℕ) → All (λ s. s.stop ≤ end) spans → IsCovered (spans_in spans) p → p < end
+pub covered_below : (end : ℕ) (spans : List (ℕ × ℕ)) (p : ℕ) → All (λ s. s.1 ≤ end) spans → IsCovered (spans_in spans) p → p < end
 covered_below end [] p all c = absurd c
-covered_below end (s ∷ ss) p all (inl w) = let h = All-head (λ s. s.stop ≤ end) s ss all in omega arith
-covered_below end (s ∷ ss) p all (inr w) = covered_below end ss p (All-tail (λ s. s.stop ≤ end) s ss all) w
+covered_below end (s ∷ ss) p all (inl w) = let h = All-head (λ s. s.1 ≤ end) s ss all in omega arith
+covered_below end (s ∷ ss) p all (inr w) = covered_below end ss p (All-tail (λ s. s.1 ≤ end) s ss all) w
 
 -- the list has gaps between its spans, and covers just the position and what the other list covers
 pub record AddsNext (first p : ℕ) (xs ys : List Span) : Type 0 where
@@ -55,7 +54,7 @@ below_with P n spans r here = grind (arith, (with_next-adds n spans r.apart (λ 
 abbrev pub AreRunsBelow : ℕ → List Span → ℕ → List Span → Type 0
 AreRunsBelow gap spans n runs = AreBelow (Bridged gap spans) n runs
 
-pub runs_below-all : (gap : ℕ) (spans : List PlainSpan) (end n : ℕ) (runs : List Span) → All (λ s. s.stop ≤ end) spans → end ≤ n → AreRunsBelow gap (spans_in spans) n runs → runs ≡ runs_of gap (spans_in spans)
+pub runs_below-all : (gap : ℕ) (spans : List (ℕ × ℕ)) (end n : ℕ) (runs : List Span) → All (λ s. s.1 ≤ end) spans → end ≤ n → AreRunsBelow gap (spans_in spans) n runs → runs ≡ runs_of gap (spans_in spans)
 runs_below-all gap spans end n runs all past r = only_runs gap (spans_in spans) runs (record {
   apart = r.apart;
   within = λ q c. (r.within q c).1;
@@ -71,11 +70,11 @@ with_next-last : (xs : List Span) (s : Span) (p : ℕ) → with_next (xs ++ s �
 with_next-last [] s p = refl
 with_next-last (x ∷ xs) s p = with_next_after-last x xs s p
 
-pub next_joined : (front : List PlainSpan) (run : PlainSpan) (p : ℕ) → run.stop ≡ p → spans_in (front ++ record { start = run.start; stop = p + 1 } ∷ []) ≡ with_next (spans_in (front ++ run ∷ [])) p
-next_joined front run p e = grind (arith, map-append, with_next-last)
+pub next_joined : (front : List (ℕ × ℕ)) (start stop p : ℕ) → stop ≡ p → spans_in (front ++ (start, p + 1) ∷ []) ≡ with_next (spans_in (front ++ (start, stop) ∷ [])) p
+next_joined front start stop p e = grind (arith, map-append, with_next-last)
 
-pub next_apart : (front : List PlainSpan) (run : PlainSpan) (p : ℕ) → (run.stop ≡ p → ⊥) → spans_in ((front ++ run ∷ []) ++ record { start = p; stop = p + 1 } ∷ []) ≡ with_next (spans_in (front ++ run ∷ [])) p
-next_apart front run p other = grind (arith, map-append, append_assoc, with_next-last)
+pub next_apart : (front : List (ℕ × ℕ)) (start stop p : ℕ) → (stop ≡ p → ⊥) → spans_in ((front ++ (start, stop) ∷ []) ++ (p, p + 1) ∷ []) ≡ with_next (spans_in (front ++ (start, stop) ∷ [])) p
+next_apart front start stop p other = grind (arith, map-append, append_assoc, with_next-last)
 
 -- without the next position, of which it isn't so
 pub below_without : (P : ℕ → Type 0) (n : ℕ) (spans : List Span) → AreBelow P n spans → (P n → ⊥) → AreBelow P (n + 1) spans
