@@ -29,9 +29,7 @@ ghost use Rattle.bt_tool.specs.calls.Plan.{plan_seen, words_seen};
 ghost use Rattle.bt_tool.specs.model.Table.{Word, tool_name, tool_of};
 ghost use Rattle.bt_tool.specs.model.Usage.{usage_text};
 ghost use Rattle.bt_tool.specs.declared.options.usage.Usage.{Usage};
-ghost use Rattle.bedtools.specs.Ending.{CannotBegin, Ends, OpensIf, ReportsRun, ReportsUnopened};
-ghost use Rattle.bt_lines.specs.calls.Faults.{write_failed};
-ghost use Rattle.bt_tool.specs.calls.Run.{Runs};
+ghost use Rattle.bedtools.specs.Ending.{AfterOutput, CannotBegin, Ends, LeavesAll, OpensIf, ReportsRun, ReportsUnopened, RunsOver};
 ghost use Rattle.bedtools.specs.Message.{Says, SaysNoMemory, cannot_open_text, message_seen};
 
 mod files;
@@ -66,7 +64,7 @@ fn main(rt: HostRuntime) -> ExitCode {
 // Reads the words of the command line and starts with them.
 fn start_by_words(rt: &HostRuntime) -> Message {
     match words(rt) {
-        Ok(words) => start(rt.alloc(), SystemFiles { rt }, words.as_slice()).message,
+        Ok(words) => start(rt.alloc(), &mut SystemFiles { rt }, words.as_slice()).message,
         Err(error) if error.kind() == io::ErrorKind::OutOfMemory => Message::no_memory(),
         Err(_) => Message::of(rt.alloc(), &Obstacle::NotUnicode),
     }
@@ -89,13 +87,14 @@ struct Finished<O> {
     output: Option<O>,
 }
 
-// Makes the plan and carries it out over these files.
-fn start<F: Files>(alloc: Global, files: F, words: &[String]) -> Finished<F::Output>
+// Makes the plan and carries it out over these files. Without a plan nothing is asked of them.
+fn start<F: Files>(alloc: Global, files: &mut F, words: &[String]) -> Finished<F::Output>
     ensures usage { (usage : Usage) → options (words_seen words.now) ≡ Err usage
-        → Says (usage_text (words_seen words.now) usage) 2 result.message × (result.output ≡ None) }
+        → Says (usage_text (words_seen words.now) usage) 2 result.message
+        × LeavesAll files.old result.output files.new }
     ensures run { (plan : PlanSeen) → options (words_seen words.now) ≡ Ok plan
-        → Ends F.Files F.Input.Source F.Output.Sink files plan result.message result.output
-        ⊎ (SaysNoMemory result.message × (result.output ≡ None)) }
+        → Ends F.Files F.Input.Source F.Output.Sink files.old plan result.message result.output files.new
+        ⊎ (SaysNoMemory result.message × LeavesAll files.old result.output files.new) }
 {
     let message = match plan(alloc, words) {
         Ok(plan) => return carry_out(alloc, files, &plan),
@@ -109,8 +108,9 @@ fn start<F: Files>(alloc: Global, files: F, words: &[String]) -> Finished<F::Out
 }
 
 // Opens the files of a plan, the genome file first and the output last, and runs it.
-fn carry_out<F: Files>(alloc: Global, files: F, plan: &Plan) -> Finished<F::Output>
-    ensures { Ends F.Files F.Input.Source F.Output.Sink files (plan_seen plan.now) result.message result.output }
+fn carry_out<F: Files>(alloc: Global, files: &mut F, plan: &Plan) -> Finished<F::Output>
+    ensures { Ends F.Files F.Input.Source F.Output.Sink files.old (plan_seen plan.now) result.message result.output
+        files.new }
 {
     match open_files(alloc, files, plan) {
         Ok(opened) => {
@@ -143,11 +143,9 @@ fn run_over<I: Source, O: Sink>(
 ) -> Ended<I, I, I, O>
     requires genome { is_some opened.genome ≡ is_some plan.now.genome }
     requires second { is_some opened.second ≡ is_some plan.now.second }
-    ensures report { Runs I.Source I.Source I.Source O.Sink plan.now.command
+    ensures { RunsOver I.Source O.Sink plan.now.command
         opened.genome opened.first opened.second opened.output (option_map fault_value result.outcome.fault)
         result.genome result.first result.second result.out }
-    ensures flushed { (option_map fault_value result.outcome.fault ≡ Some write_failed)
-        ⊎ (O.is_flushed result.out ≡ true) }
 {
     let OpenedFiles {
         genome,
@@ -161,20 +159,18 @@ fn run_over<I: Source, O: Sink>(
 // Opens the files of a plan, of which nothing is read. `Err` if one can't be opened.
 fn open_files<F: Files>(
     alloc: Global,
-    files: F,
+    files: &mut F,
     plan: &Plan,
 ) -> Result<OpenedFiles<F::Input, F::Output>, Message>
-    ensures genome { IfOk result (λ opened. OpensIf F.Files files (plan_seen plan.now).names.genome opened.genome) }
-    ensures first { IfOk result (λ opened. F.opens files (plan_seen plan.now).names.first opened.first) }
-    ensures second { IfOk result (λ opened. OpensIf F.Files files (plan_seen plan.now).names.second opened.second) }
-    ensures output { IfOk result (λ opened. F.creates files (plan_seen plan.now).names.output opened.output) }
+    ensures opened { IfOk result (λ opened. AfterOutput F.Files files.old (plan_seen plan.now)
+        opened.genome opened.first opened.second opened.output files.new) }
     ensures has_genome { IfOk result (λ opened. is_some opened.genome ≡ is_some plan.now.genome) }
     ensures has_second { IfOk result (λ opened. is_some opened.second ≡ is_some plan.now.second) }
-    ensures unopened { IfErr result (CannotBegin F.Files files (plan_seen plan.now)) }
+    ensures unopened { IfErr result (λ message. CannotBegin F.Files files.old (plan_seen plan.now) message files.new) }
 {
-    let genome = open_if_named(alloc, &files, plan, &plan.genome)?;
-    let first = open(alloc, &files, plan, plan.first.as_str())?;
-    let second = open_if_named(alloc, &files, plan, &plan.second)?;
+    let genome = open_if_named(alloc, files, plan, &plan.genome)?;
+    let first = open(alloc, files, plan, plan.first.as_str())?;
+    let second = open_if_named(alloc, files, plan, &plan.second)?;
     let output = open_output(alloc, files, plan)?;
     Ok(OpenedFiles {
         genome,
@@ -185,10 +181,10 @@ fn open_files<F: Files>(
 }
 
 // Creates the output file of a plan, or takes standard output if it has none. `Err` if it can't be created.
-fn open_output<F: Files>(alloc: Global, files: F, plan: &Plan) -> Result<F::Output, Message>
-    ensures creates { IfOk result (F.creates files (plan_seen plan.now).names.output) }
+fn open_output<F: Files>(alloc: Global, files: &mut F, plan: &Plan) -> Result<F::Output, Message>
+    ensures creates { IfOk result (λ output. F.creates files.old (plan_seen plan.now).names.output output files.new) }
     ensures reports { IfErr result (λ message. (word : Word) × ((plan_seen plan.now).names.output ≡ Some word)
-        × ReportsUnopened F.Files files (plan_seen plan.now) word message) }
+        × ReportsUnopened F.Files files.old (plan_seen plan.now) word message files.new) }
 {
     let Some(name) = &plan.output else {
         return Ok(files.standard_output());
@@ -203,14 +199,14 @@ fn open_output<F: Files>(alloc: Global, files: F, plan: &Plan) -> Result<F::Outp
 // Opens an input that the plan may not have. `Err` if it can't be opened.
 fn open_if_named<F: Files>(
     alloc: Global,
-    files: &F,
+    files: &mut F,
     plan: &Plan,
     name: &Option<String>,
 ) -> Result<Option<F::Input>, Message>
-    ensures opens { IfOk result (OpensIf F.Files files.now (option_map string_bytes name.now)) }
+    ensures opens { IfOk result (λ input. OpensIf F.Files files.old (option_map string_bytes name.now) input files.new) }
     ensures input { IfOk result (λ input. is_some input ≡ is_some name.now) }
     ensures reports { IfErr result (λ message. (word : Word) × (option_map string_bytes name.now ≡ Some word)
-        × ReportsUnopened F.Files files.now (plan_seen plan.now) word message) }
+        × ReportsUnopened F.Files files.old (plan_seen plan.now) word message files.new) }
 {
     match name {
         Some(name) => Ok(Some(open(alloc, files, plan, name.as_str())?)),
@@ -219,9 +215,15 @@ fn open_if_named<F: Files>(
 }
 
 // Opens an input. `Err` if it can't be opened.
-fn open<F: Files>(alloc: Global, files: &F, plan: &Plan, name: &str) -> Result<F::Input, Message>
-    ensures opens { IfOk result (F.opens files.now name.now) }
-    ensures reports { IfErr result (ReportsUnopened F.Files files.now (plan_seen plan.now) name.now) }
+fn open<F: Files>(
+    alloc: Global,
+    files: &mut F,
+    plan: &Plan,
+    name: &str,
+) -> Result<F::Input, Message>
+    ensures opens { IfOk result (λ input. F.opens files.old name.now input files.new) }
+    ensures reports { IfErr result (λ message. ReportsUnopened F.Files files.old (plan_seen plan.now) name.now message
+        files.new) }
 {
     match files.open(name) {
         Ok(input) => Ok(input),
@@ -296,7 +298,7 @@ mod tests {
         for word in command.split_whitespace() {
             words.push(String::from_str(rt.alloc(), word)?)?;
         }
-        Ok(start(rt.alloc(), SystemFiles { rt }, words.as_slice()).message)
+        Ok(start(rt.alloc(), &mut SystemFiles { rt }, words.as_slice()).message)
     }
 
     fn expect(rt: &impl Abort, message: &Message, end: &str, row: &str) {

@@ -11,7 +11,7 @@ use bt_tool::Plan;
 use std::io;
 
 /// Opens files by the system, with the program's own standard streams.
-#[derive(Clone, Copy)]
+#[derive(Drop)]
 pub struct SystemFiles<'r> {
     pub rt: &'r HostRuntime,
 }
@@ -21,24 +21,24 @@ impl Files for SystemFiles<'_> {
 
     type Output = Output;
 
-    ghost opens = { λ files name input. IsUnused name input };
+    ghost opens = { λ before name input after. IsUnused name input };
 
-    ghost creates = { λ files name output. output_is_file output ≡ is_some name };
+    ghost creates = { λ before name output after. output_is_file output ≡ is_some name };
 
-    ghost refuses = { λ files name. ⊤ };
+    ghost refuses = { λ before name after. ⊤ };
 
-    fn open(&self, name: &str) -> Result<Opened, Unopened> {
+    fn open(&mut self, name: &str) -> Result<Opened, Unopened> {
         match Opened::open(self.rt, name) {
             Ok(input) => Ok(input),
             Err(error) => Err(unopened(&error)),
         }
     }
 
-    fn standard_output(self) -> Output {
+    fn standard_output(&mut self) -> Output {
         Output::standard(self.rt)
     }
 
-    fn create(self, plan: &Plan, name: &str) -> Result<Output, Unopened> {
+    fn create(&mut self, plan: &Plan, name: &str) -> Result<Output, Unopened> {
         if is_input(self.rt, plan, name) {
             return Err(Unopened::Refused);
         }
