@@ -8,7 +8,7 @@ use Rattle.bt_tool.specs.calls.Inputs.{OfBoth}
 use Rattle.bt_tool.specs.calls.Run.{IsOwnFailure, IsOwnFailureIf, ReadsServe, Runs, TellsNoRead, TellsOwnReads}
 use Rattle.bt_tool.specs.model.Options.{PlanSeen}
 use Rattle.bt_tool.specs.model.Report.{fault_text, status_of}
-use Rattle.bt_tool.specs.declared.options.options.Command.{Command}
+use Rattle.bt_tool.specs.declared.planning.plan_type.Command.{Command}
 use Rattle.bt_tool.specs.model.Table.{Word, tool_name, tool_of}
 use Rattle.bedtools.specs.Message.{Says, cannot_open_text, message_seen}
 use Rattle.bedtools.specs.declared.files.Files.{Ghosts as Files}
