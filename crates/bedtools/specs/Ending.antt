@@ -61,8 +61,9 @@ module _ {F I O : Type 0} (ghosts : Files F I O) where
   pub data CannotBegin (before : F) (plan : PlanSeen) (message : Message) (after : F) : Type 0 where
     no_genome : (name : Word) → plan.names.genome ≡ Some name → ReportsUnopened before plan name message after
         → CannotBegin before plan message after
-    no_first : (genome : Option I) (between : F) → OpensIf before plan.names.genome genome between
-        → ReportsUnopened between plan plan.names.first message after → CannotBegin before plan message after
+    no_first : (genome : Option I) (between : F) (name : Word)
+        → OpensIf before plan.names.genome genome between → plan.names.first ≡ name
+        → ReportsUnopened between plan name message after → CannotBegin before plan message after
     no_second : (genome : Option I) (first : I) (between : F) (name : Word)
         → AfterFirst before plan genome first between → plan.names.second ≡ Some name
         → ReportsUnopened between plan name message after → CannotBegin before plan message after
