@@ -53,6 +53,14 @@ module _ {A : Type 0} where
   all_map P f [] h = tt
   all_map P f (x ∷ xs) h = (h.0, all_map P f xs h.1)
 
+-- what is so of the elements that pass
+pub all_unfilter : {A : Type 0} (P : A → Type 0) (t : A → Bool) (xs : List A) → AllByRecursion P (filter t xs) → AllByRecursion (λ x. t x ≡ true → P x) xs
+all_unfilter P t [] h = tt
+all_unfilter P t (x ∷ xs) h = elim (cases_Bool (t x)) [
+  | inl y ↦ let both = rw y at h in (λ e. both.0, all_unfilter P t xs both.1)
+  | inr n ↦ (λ e. absurd (cc), all_unfilter P t xs (rw n at h))
+]
+
 pub all_flat_map : {A B : Type 0} (P : B → Type 0) (f : A → List B) (xs : List A) → AllByRecursion (λ x. AllByRecursion P (f x)) xs → AllByRecursion P (flat_map f xs)
 all_flat_map P f [] h = tt
 all_flat_map P f (x ∷ xs) h = all_both P (f x) (flat_map f xs) h.0 (all_flat_map P f xs h.1)
@@ -122,6 +130,12 @@ pub some_out : {A : Type 0} (P : A → Type 0) (R : Type 0) → ((x : A) → P x
 some_out P R h [] p = absurd p
 some_out P R h (x ∷ xs) (inl p) = h x p
 some_out P R h (x ∷ xs) (inr p) = some_out P R h xs p
+
+-- and so is what is so if one of them is such, and something is so of each
+pub some_with : {A : Type 0} (P Q : A → Type 0) (R : Type 0) → ((x : A) → P x → Q x → R) → (xs : List A) → Some_of P xs → AllByRecursion Q xs → R
+some_with P Q R h [] p e = absurd p
+some_with P Q R h (x ∷ xs) (inl p) e = h x p e.0
+some_with P Q R h (x ∷ xs) (inr p) e = some_with P Q R h xs p e.1
 
 pub some_left : {A : Type 0} (P : A → Type 0) (xs ys : List A) → Some_of P xs → Some_of P (xs ++ ys)
 some_left P (x ∷ xs) ys (inl p) = inl p

@@ -70,12 +70,14 @@ impl Rule for PerStrandMerge {
         if is_same_name(self.chrom.as_slice(), chrom) {
             return Ok(());
         }
-        self.runs.put_all(self.chrom.as_slice(), out)?;
-        self.chrom.clear();
-        match self.chrom.extend_from_slice(chrom) {
-            Ok(()) => Ok(()),
-            Err(AllocError) => Err(no_memory()),
+        if let Err(fault) = self.runs.put_all(self.chrom.as_slice(), out) {
+            return Err(fault);
         }
+        self.chrom.clear();
+        if let Err(AllocError) = self.chrom.extend_from_slice(chrom) {
+            return Err(no_memory());
+        }
+        Ok(())
     }
 
     fn on_chrom(&self) {}

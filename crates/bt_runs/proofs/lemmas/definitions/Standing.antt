@@ -253,9 +253,6 @@ module _ {K : Type 0} (name : K → List ℕ) where
 pub passed_elsewhere : (gap : ℕ) (last run : Interval) → bytes_eq run.chrom last.chrom ≡ false → is_closed gap last run ≡ true
 passed_elsewhere gap last run other = or_left (not (bytes_eq run.chrom last.chrom)) (nat_lt (run.stop + gap) last.start) (not_from_false (bytes_eq run.chrom last.chrom) other)
 
-pub passed_far : (gap : ℕ) (last run : Interval) → run.stop + gap < last.start → is_closed gap last run ≡ true
-passed_far gap last run far = or_right (not (bytes_eq run.chrom last.chrom)) (nat_lt (run.stop + gap) last.start) (lt-ltb (run.stop + gap) last.start far)
-
 pub not_passed : (gap : ℕ) (last run : Interval) → run.chrom ≡ last.chrom → last.start ≤ run.stop + gap → is_closed gap last run ≡ false
 not_passed gap last run same near = or_from (not (bytes_eq run.chrom last.chrom)) (nat_lt (run.stop + gap) last.start) (not_from_true (bytes_eq run.chrom last.chrom) (name_eq run.chrom last.chrom same)) (le-ltb (run.stop + gap) last.start near)
 

@@ -58,16 +58,7 @@ module _ {E : Type 0} (merge : E → Kind) (only : (first : Kind) (past : List F
         → FeedsBatch merge_engine cursor (merge old) start out result (merge new) passed grown
     batch_inside old start out new passed grown (Ok done) p = (given_inside old start out new passed grown p.0, p.1)
     batch_inside old start out new passed grown (Err answer) (inl p) = grind arith
-    batch_inside old start out new passed grown (Err answer) (inr p) = inr (record {
-      mid = merge p.mid;
-      before = p.before;
-      through = p.through;
-      takes = given_inside old start out p.mid p.before p.through p.takes;
-      r = p.r;
-      given = p.given;
-      fails = feeds_inside p.mid p.r p.through new grown (Err answer) p.fails;
-      memory = p.memory;
-    })
+    batch_inside old start out new passed grown (Err answer) (inr p) = grind (arith, (given_inside old start out p.mid p.before p.through p.takes), (feeds_inside p.mid p.r p.through new grown (Err answer) p.fails))
 
 -- a merge without regard to strands, and one of each strand
 pub only_unstranded : (first : Kind) (past : List Feature) (old : Ruled unstranded.Unstranded) → IsAfter first past (Unstranded old) → (inner : Ruled unstranded.Unstranded) × (Unstranded inner ≡ first)

@@ -1,21 +1,21 @@
 -- What a merge that keeps the strands apart does with one more record is what the definitions say, whatever the past.
-use Rattle.bt_lines.proofs.Std.{codes, decimal, ◌≡◌, ◌⊎◌, ℕ, ◌+◌, ◌-◌, ◌≤◌, List, [], ◌∷◌, ◌++◌, append-nil, length-append, inl, inr, not, cond, ◌||◌, get_or, map, Bool, true, false, bytes_eq, nat_lt, Option, None, Some, Result, Ok, Err, refl, sym, ap, ◌∙◌, subst, arith, prefix_len, slice_get, is_err, OnOk, flat_map-append, drop-map, get_or-map, length-map, map-append, map-set, take-map, get_or_from_slice_get, slice_get-get_or, slice_get_within}
+use Rattle.bt_lines.proofs.Std.{length, ◌≡◌, ℕ, ◌+◌, ◌-◌, ◌≤◌, List, [], ◌∷◌, ◌++◌, append-nil, length-append, inr, not, cond, ◌||◌, map, Bool, true, false, bytes_eq, nat_lt, Option, None, Some, Result, Ok, Err, refl, sym, ap, ◌∙◌, arith, prefix_len, slice_get, slice_get-map, option_map, is_err, OnOk, flat_map-append, drop-map, length-map, map-append, map-set, take-map}
 use Rattle.bt_lines.specs.calls.Faults.{no_memory}
 use Rattle.bt_lines.specs.calls.Names.{fault_value}
 use Rattle.bt_lines.specs.calls.Output.{Output, Adds, FailsToAdd, Grown}
 use Rattle.bt_lines.specs.declared.fault.Fault.{Fault}
-use Rattle.bt_bed.specs.model.Feature.{Feature, Interval, is_strand}
+use Rattle.bt_bed.specs.model.Feature.{Feature, Interval, interval_of, is_strand}
 use Rattle.bt_bed.specs.model.BedLine.{interval_line, interval_lines}
 use Rattle.bt_bed.proofs.lemmas.parse.NameLemmas.{name_eq, other_name}
 use Rattle.bt_runs.specs.calls.Engine.{AfterEach, fault_of}
-use Rattle.bt_runs.specs.model.Merged.{StrandRun, places_of, settled_strand_runs}
+use Rattle.bt_runs.specs.model.Merged.{StrandRun, is_closed, places_of, settled_strand_runs}
 use Rattle.bt_runs.specs.calls.MergedRuns.{kept_strand_runs}
-use Rattle.bt_runs.specs.inside.merge.StrandStep.{left_runs, passed_runs, place_of, placed_run, placed_runs, with_joined, added_at, left_unsettled, settled_prefix, last_place, place_among, run_from, with_added, TakesAmong, joined_among, lines_by, strand_rule, stranding}
+use Rattle.bt_runs.specs.inside.merge.StrandStep.{joined_at, joined_here, lengthened, left_runs, passed_runs, place_of, placed_run, placed_runs, with_joined, added_at, left_unsettled, settled_prefix, run_from, run_with, with_added, TakesAmong, lines_by, strand_rule, stranding}
 use Rattle.bt_runs.specs.inside.Walk.{Does, EnterAnswers, FitsPast, PutsRestAtEnd}
 use Rattle.bt_runs.specs.calls.Stranding.{Stranding, held_count, settled_lines, strand_lines}
 use Rattle.bt_runs.specs.declared.engine.failure.Failure.{Failure}
 use Rattle.bt_runs.specs.declared.merge.pending_runs.PendingRun.{PendingRun}
-use Rattle.bt_runs.proofs.lemmas.merge.StrandSettling.{last_place_within, left_none, passed_every, strand_next, strand_runs_are_all}
+use Rattle.bt_runs.proofs.lemmas.merge.StrandSettling.{last_place_map, left_none, passed_every, strand_next, strand_runs_are_all}
 use Rattle.bt_runs.proofs.lemmas.Engine.{enters, enters_cut, enters_short, none_more}
 use Rattle.bt_runs.proofs.lemmas.merge.UnstrandedLemmas.{last_is}
 
@@ -31,12 +31,18 @@ prefix_map : {A B : Type 0} (test : B → Bool) (f : A → B) (xs : List A) → 
 prefix_map test f [] = refl
 prefix_map test f (x ∷ xs) = ap (λ n. cond (test (f x)) (1 + n) 0) (prefix_map test f xs)
 
-last_place_map : {A B : Type 0} (test : B → Bool) (f : A → B) (xs : List A) → last_place test (map f xs) ≡ last_place (λ x. test (f x)) xs
-last_place_map test f [] = refl
-last_place_map test f (x ∷ xs) = ap (place_among (test (f x))) (last_place_map test f xs)
+-- a new element is added to mapped ones as to those themselves
+abbrev added : {A : Type 0} → Bool × List A → List A → A → List A
+added joined xs x = cond joined.0 joined.1 (xs ++ x ∷ [])
 
-get_map : {A B : Type 0} (f : A → B) (xs : List A) (i : ℕ) (x : A) (d : B) → slice_get xs i ≡ Some x → get_or (map f xs) i d ≡ f x
-get_map f xs i x d e = get_or-map f xs i x d (slice_get_within xs i x e) ∙ ap f (get_or_from_slice_get xs i x x e)
+module _ {A B : Type 0} (f : A → B) (over : A → Bool) (longer : A → A) (over_there : B → Bool) (longer_there : B → B) (o : (x : A) → over_there (f x) ≡ over x) (l : (x : A) → longer_there (f x) ≡ f (longer x)) (xs : List A) where
+  added_there : (y : A) (place : ℕ) (found : Option A) → added (joined_here over_there longer_there (map f xs) place (option_map f found)) (map f xs) (f y) ≡ map f (added (joined_here over longer xs place found) xs y)
+  added_there y place None = sym (map-append f xs (y ∷ []))
+  added_there y place (Some x) = grind (arith, (o x), (l x), map-set, map-append)
+
+  added_map : (y : A) (place : Option ℕ) → added (joined_at over_there longer_there (map f xs) place) (map f xs) (f y) ≡ map f (added (joined_at over longer xs place) xs y)
+  added_map y None = sym (map-append f xs (y ∷ []))
+  added_map y (Some place) = rw (slice_get-map f xs place) (added_there y place (slice_get xs place))
 
 module _ (gap : ℕ) (chrom : List ℕ) (r : Feature) where
   abbrev here : Bool
@@ -49,33 +55,15 @@ module _ (gap : ℕ) (chrom : List ℕ) (r : Feature) where
   pub front_placed : (runs : List PendingRun) → settled_prefix gap (placed_runs chrom runs) r ≡ placed_runs chrom (passed_runs here reach runs)
   front_placed runs = grind (arith, prefix_map, (take-map (placed_run chrom) (prefix_len (λ (w : PendingRun). not here || nat_lt w.stop reach) runs) runs))
 
-  -- the record lies on the chromosome of the runs, or there are none
-  abbrev pub Fits : List PendingRun → Type 0
-  Fits rest = (here ≡ true) ⊎ (rest ≡ [])
+  over_placed : chrom ≡ r.chrom → (w : PendingRun) → is_closed gap (interval_of r) (placed_run chrom w).run ≡ nat_lt w.stop reach
+  over_placed on w = grind (arith, (name_eq chrom r.chrom on))
 
-  -- a record that is joined to the last run of its strand, and one that isn't
-  pub record Added (rest : List PendingRun) (joined : Bool) (new : List PendingRun) : Type 0 where
-    pub one : joined ≡ true → with_added gap (placed_runs chrom rest) r ≡ placed_runs chrom new
-    pub more : joined ≡ false → (new ≡ rest) × (with_added gap (placed_runs chrom rest) r ≡ placed_runs chrom rest ++ run_from r ∷ [])
-
-  place_same : (rest : List PendingRun) → with_added gap (placed_runs chrom rest) r ≡ added_at gap (placed_runs chrom rest) r (place_of r.strand rest)
-  place_same rest = ap (added_at gap (placed_runs chrom rest) r) (last_place_map (λ item. is_strand item.strand r.strand) (placed_run chrom) rest)
-
-  added_none : (rest : List PendingRun) → place_of r.strand rest ≡ None → Added rest (with_joined reach r.stop rest (place_of r.strand rest)).0 (with_joined reach r.stop rest (place_of r.strand rest)).1
-  added_none rest none = grind (arith, place_same)
-
-  added_some : (rest : List PendingRun) (place : ℕ) (w : PendingRun) → place_of r.strand rest ≡ Some place → slice_get rest place ≡ Some w → here ≡ true → Added rest (with_joined reach r.stop rest (place_of r.strand rest)).0 (with_joined reach r.stop rest (place_of r.strand rest)).1
-  added_some rest place w is got on = grind (arith, get_map, place_same, map-set)
-
-  added_at_place : (rest : List PendingRun) (place : Option ℕ) → place_of r.strand rest ≡ place → Fits rest → Added rest (with_joined reach r.stop rest (place_of r.strand rest)).0 (with_joined reach r.stop rest (place_of r.strand rest)).1
-  added_at_place rest None is fits = added_none rest is
-  added_at_place rest (Some place) is (inl on) =
-      let within = last_place_within (λ (w : PendingRun). is_strand w.strand r.strand) rest place is in
-      added_some rest place (get_or rest place (pending_from r)) is (slice_get-get_or rest place (pending_from r) within) on
-  added_at_place rest (Some place) is (inr none) = grind arith
-
-  pub added_by : (rest : List PendingRun) (joined : Bool) (new : List PendingRun) → (joined, new) ≡ with_joined reach r.stop rest (place_of r.strand rest) → Fits rest → Added rest joined new
-  added_by rest joined new is fits = subst (λ (pair : Bool × List PendingRun). Added rest pair.0 pair.1) (sym is) (added_at_place rest (place_of r.strand rest) refl fits)
+  -- a record on their chromosome is added as to those without it
+  pub added_placed : chrom ≡ r.chrom → (rest : List PendingRun) → with_added gap (placed_runs chrom rest) r ≡ placed_runs chrom (added (with_joined reach r.stop rest (place_of r.strand rest)) rest (pending_from r))
+  added_placed on rest =
+      ap (added_at gap (placed_runs chrom rest) r) (last_place_map (λ item. is_strand item.strand r.strand) (placed_run chrom) rest)
+      ∙ ap (λ name. added (joined_at (λ item. is_closed gap (interval_of r) item.run) (run_with r) (placed_runs chrom rest) (place_of r.strand rest)) (placed_runs chrom rest) (placed_run name (pending_from r))) (sym on)
+      ∙ added_map (placed_run chrom) (λ (w : PendingRun). nat_lt w.stop reach) (lengthened r.stop) (λ item. is_closed gap (interval_of r) item.run) (run_with r) (over_placed on) (λ w. refl) rest (pending_from r) (place_of r.strand rest)
 
 -- what is done with a record on the chromosome of the runs
 module _ (old : Stranding) (r : Feature) (out : Output) (runs : List PendingRun) (kept_is : old.kept ≡ placed_runs old.chrom runs) (on : old.chrom ≡ r.chrom) where
@@ -94,25 +82,11 @@ module _ (old : Stranding) (r : Feature) (out : Output) (runs : List PendingRun)
   lines_is : strand_lines (placed_runs old.chrom (passed_runs true near runs)) ≡ lines_by old r
   lines_is = ap strand_lines (sym (grind (arith, front_placed, here_is)))
 
-  kept_is_with : (new : List StrandRun) → with_added old.gap (placed_runs old.chrom left) r ≡ new → with_added old.gap (left_unsettled old.gap old.kept r) r ≡ new
-  kept_is_with new is = ap (λ items. with_added old.gap items r) behind_is ∙ is
-
-  takes_with : (new : Stranding) (grown : Output) → new.gap ≡ old.gap → new.chrom ≡ old.chrom → with_added old.gap (placed_runs old.chrom left) r ≡ new.kept
-      → Grown out (strand_lines (placed_runs old.chrom (passed_runs true near runs))) grown → TakesNext old r out (Ok tt) new grown
-  takes_with new grown gap chrom kept puts = (record { gap = gap; chrom = chrom ∙ on; kept = sym (kept_is_with new.kept kept) }, rw (← lines_is) puts)
-
-  -- among the runs that are left
-  abbrev joined : Bool × List PendingRun
-  joined = joined_among near runs (pending_from r)
-
-  added : Added old.gap old.chrom r left joined.0 joined.1
-  added = added_by old.gap old.chrom r left joined.0 joined.1 refl (inl here_is)
-
   pub takes_among : {now : List PendingRun} {new : Stranding} {grown : Output} → TakesAmong near runs (pending_from r) old.chrom out {A = Unit {0}} (Ok tt) now grown → new.gap ≡ old.gap → new.chrom ≡ old.chrom → new.kept ≡ placed_runs old.chrom now → TakesNext old r out (Ok tt) new grown
-  takes_among {new} {grown} p gap chrom kept = takes_with new grown gap chrom ((grind (arith, added, map-append)) ∙ sym kept) p.1
+  takes_among p gap chrom kept = grind (arith, behind_is, lines_is, (added_placed old.gap old.chrom r on left))
 
   pub fails_among : (failure : Failure) (fault : Fault) (now : List PendingRun) (new : Stranding) {grown : Output} → fault_value fault ≡ fault_of failure → TakesAmong near runs (pending_from r) old.chrom out {A = Unit {0}} (Err failure) now grown → TakesNext old r out (Err fault) new grown
-  fails_among failure fault now new is p = grind (arith, behind_is, added, lines_is)
+  fails_among failure fault now new is p = grind (arith, behind_is, (added_placed old.gap old.chrom r on left), lines_is, map-append)
 
 -- what was put, if that didn't fail
 pub put_well : (out grown : Output) (bytes : List ℕ) (result : Result (Unit {0}) Fault) → is_err result ≡ false → Adds out bytes result grown → Grown out bytes grown
@@ -129,14 +103,9 @@ none_first (w ∷ ws) e = absurd (cc)
 places-append : (xs ys : List StrandRun) → strand_lines (xs ++ ys) ≡ strand_lines xs ++ strand_lines ys
 places-append xs ys = ap interval_lines (map-append (λ (item : StrandRun). item.run) xs ys) ∙ flat_map-append interval_line (places_of xs) (places_of ys)
 
--- no line of a run is empty
-pushed_some : (xs : List ℕ) (y : ℕ) (ys : List ℕ) → (xs ++ y ∷ []) ++ ys ≡ [] → ⊥
-pushed_some [] y ys e = absurd (cc)
-pushed_some (x ∷ xs) y ys e = absurd (cc)
-
 no_lines : (runs : List Interval) → interval_lines runs ≡ [] → runs ≡ []
 no_lines [] e = refl
-no_lines (run ∷ runs) e = absurd (pushed_some (run.chrom ++ codes "\t" ++ decimal run.start ++ codes "\t" ++ decimal run.stop) 10 (interval_lines runs) e)
+no_lines (run ∷ runs) e = let many = ap length e in absurd (omega (arith, length-append {A = ℕ}))
 
 module _ (merge : Stranding) (r : Feature) where
   next : AfterEach stranding merge r (λ first past. settled_lines first (past ++ r ∷ []) ≡ settled_lines first past ++ lines_by merge r)
@@ -180,10 +149,5 @@ module _ (old : Stranding) (out : Output) (runs : List PendingRun) (kept_is : ol
 
   pub entered : (mid : Stranding) (through : Output) → mid.gap ≡ old.gap → mid.kept ≡ [] → Grown out (strand_lines old.kept) through → Enters old chrom out (Ok tt) mid through
   entered mid through gap none closed = enters (fits old) (strand_lines old.kept) {mid = mid} closed
-      (λ r at. all_lines r at ∙ sym (append-nil (strand_lines old.kept)) ∙ ap (λ items. strand_lines old.kept ++ strand_lines (settled_prefix mid.gap items r)) (sym none))
-      (λ r at new p. record {
-        gap = p.gap ∙ gap;
-        chrom = p.chrom;
-        kept = p.kept ∙ rw gap (ap (λ items. with_added old.gap (left_unsettled old.gap items r) r) none) ∙ sym (ap (λ items. with_added old.gap items r) (none_behind r at));
-      })
+      (λ r at. grind (arith, append-nil, (all_lines r at))) (λ r at new p. grind (arith, (none_behind r at)))
       (λ r at wanted. inr (not_on r at))

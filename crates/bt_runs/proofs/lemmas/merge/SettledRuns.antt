@@ -1,16 +1,16 @@
 -- What a merge says of one chromosome, and what it owes of it: the runs that are done by the last start, and the one that it keeps.
-use Rattle.bt_lines.proofs.Std.{◌≡◌, ℕ, ◌+◌, ◌<◌, ◌≤◌, ◌⊎◌, inl, inr, List, [], ◌∷◌, ◌++◌, append-nil, refl, sym, ap, ap₂, ◌∙◌, arith, length, map, filter, not, false, bytes_eq, cases_Bool, cases_lt, cond-true, cond-false, not_from_true, not_from_false, map-append, filter-append, subst, cond, drop, drop_at}
+use Rattle.bt_lines.proofs.Std.{◌≡◌, ℕ, ◌+◌, ◌<◌, ◌≤◌, ◌⊎◌, inl, inr, List, [], ◌∷◌, ◌++◌, append_assoc, append-nil, refl, sym, ap, ap₂, ◌∙◌, arith, length, map, filter, false, bytes_eq, cases_Bool, cases_lt, lt-ltb, le-ltb, max, nat_lt, map-append, filter-append, subst, cond, drop, drop_at}
 use Rattle.bt_bed.specs.model.Feature.{Feature, interval_of, intervals_of, Interval, Span, placed_on, span_of, spans_on}
 use Rattle.bt_bed.specs.model.Sorted.{has_records}
 use Rattle.bt_bed.specs.calls.Orders.{ArePlaced, AreContiguous, AreDistinct}
-use Rattle.bt_bed.proofs.lemmas.parse.NameLemmas.{name_ne}
+use Rattle.bt_bed.proofs.lemmas.parse.NameLemmas.{name_eq, name_ne}
 use Rattle.bt_runs.specs.model.Merged.{is_counted, counted, runs_of, runs_on, is_closed, merged_runs, chromosomes, merged}
 use Rattle.bt_runs.specs.calls.MergedRuns.{settled_runs, kept_runs, AreMergeable}
 use Rattle.bt_runs.specs.inside.merge.UnstrandedStep.{kept_by, runs_left_by, settled_by, runs_with}
 use Rattle.bt_runs.specs.declared.merge.merge_strand.MergeStrand.{MergeStrand}
 use Rattle.bt_runs.proofs.lemmas.order.ByChromosome.{Divides, Form, NoRecords, Owes, Begun, InOrder, Moves, Ordered, Standing, Written, bares, begun, full_front, full_last, goes_first, goes_next, goes_on, goes_to, order_front, settling, whole_left}
 use Rattle.bt_runs.proofs.lemmas.order.FileOrder.{runs_on-push_elsewhere, spans_on-none, spans_on-push_here, runs_of-nil, runs_on-none, in_file_order, distinct_chromosomes, placed_own}
-use Rattle.bt_runs.proofs.lemmas.definitions.Standing.{counted_absent, counted_next, not_passed, passed_before, passed_far, placed_elsewhere, not_less, stays, begins, begins_at, counted-append}
+use Rattle.bt_runs.proofs.lemmas.definitions.Standing.{counted_absent, counted_next, passed_before, placed_elsewhere, not_less, stays, begins, begins_at, counted-append}
 use Rattle.bt_runs.proofs.lemmas.merge.Bridging.{OneOpen, join_open, longer, next_open, open_runs}
 use Rattle.bt_bed.specs.model.Order.{rank_order}
 use Rattle.bt_bed.proofs.lemmas.order.OrderLemmas.{placed_prefix, contiguous_prefix}
@@ -30,22 +30,25 @@ pub record Last (gap : ℕ) (spans : List Span) (start : ℕ) : Type 0 where
   pub up : at ≤ start
   pub one : OneOpen gap spans at before run
 
--- it is kept, since the last record is near; or it is done
-pub record IsKept (gap : ℕ) (name : List ℕ) (spans : List Span) (start : ℕ) (done kept : List Interval) : Type 0 where
-  pub last : Last gap spans start
-  pub near : start ≤ last.run.stop + gap
-  pub done_is : done ≡ map (placed_on name) last.before
-  pub kept_is : kept ≡ placed_on name last.run ∷ []
+-- it is done if the last start is beyond the gap, and else it is kept
+module _ (gap : ℕ) (name : List ℕ) (run : Span) (start : ℕ) where
+  abbrev pub if_done : List Interval
+  if_done = cond (nat_lt (run.stop + gap) start) (placed_on name run ∷ []) []
 
-pub record IsDone (gap : ℕ) (name : List ℕ) (spans : List Span) (start : ℕ) (done kept : List Interval) : Type 0 where
+  abbrev pub if_kept : List Interval
+  if_kept = cond (nat_lt (run.stop + gap) start) [] (placed_on name run ∷ [])
+
+  done_and_kept : if_done ++ if_kept ≡ placed_on name run ∷ []
+  done_and_kept = grind arith
+
+pub record Opened (gap : ℕ) (name : List ℕ) (spans : List Span) (start : ℕ) (done kept : List Interval) : Type 0 where
   pub last : Last gap spans start
-  pub far : last.run.stop + gap < start
-  pub done_is : done ≡ map (placed_on name) (last.before ++ last.run ∷ [])
-  pub kept_is : kept ≡ []
+  pub done_is : done ≡ map (placed_on name) last.before ++ if_done gap name last.run start
+  pub kept_is : kept ≡ if_kept gap name last.run start
 
 -- the runs of a chromosome by the last start on it
 abbrev pub Runs : ℕ → List ℕ → List Span → ℕ → List Interval → List Interval → Type 0
-Runs gap name spans start done kept = Unopened spans done kept ⊎ (IsKept gap name spans start done kept ⊎ IsDone gap name spans start done kept)
+Runs gap name spans start done kept = Unopened spans done kept ⊎ Opened gap name spans start done kept
 
 abbrev pub At : ℕ → MergeStrand → List ℕ → List Feature → ℕ → List Interval → List Interval → Type 0
 At gap strand name past start done kept = Runs gap name (spans_on name (counted strand past)) start done kept
@@ -53,61 +56,52 @@ At gap strand name past start done kept = Runs gap name (spans_on name (counted 
 abbrev later : (gap : ℕ) (spans : List Span) (start more : ℕ) → start ≤ more → Last gap spans start → Last gap spans more
 later gap spans start more up last = record { before = last.before; run = last.run; at = last.at; up = let h = last.up in omega arith; one = last.one }
 
+module _ (gap : ℕ) (name : List ℕ) (run : Span) (x : Interval) (is : name ≡ x.chrom) where
+  -- a later start settles the last run if it closes it
+  moves_on : (start : ℕ) → start ≤ x.start → (if_done gap name run start ++ settled_by gap (if_kept gap name run start) x ≡ if_done gap name run x.start) × (runs_left_by gap (if_kept gap name run start) x ≡ if_kept gap name run x.start)
+  moves_on start up = grind (arith, (name_eq name x.chrom is))
+
+  -- it is over if it is done, and isn't if it is kept
+  is_over : (filter (is_closed gap x) (if_done gap name run x.start) ≡ if_done gap name run x.start) × (filter (is_closed gap x) (if_kept gap name run x.start) ≡ [])
+  is_over = grind (arith, (name_eq name x.chrom is))
+
 module _ (gap : ℕ) (name : List ℕ) (spans : List Span) where
-  -- a later start settles the run that it closes
   passes : (start : ℕ) (done kept : List Interval) (x : Interval) → name ≡ x.chrom → start ≤ x.start → Runs gap name spans start done kept → Runs gap name spans x.start (done ++ settled_by gap kept x) (runs_left_by gap kept x)
   passes start done kept x is up (inl u) = inl (record { none = u.none; done_is = rw (u.done_is, u.kept_is) refl; kept_is = rw u.kept_is refl })
-  passes start done kept x is up (inr (inr d)) = inr (inr (record {
-    last = later gap spans start x.start up d.last;
-    far = let h = d.far in omega arith;
-    done_is = rw d.kept_is (append-nil done ∙ d.done_is);
-    kept_is = rw d.kept_is refl;
-  }))
-  passes start done kept x is up (inr (inl k)) =
-      let run = placed_on name k.last.run in
-      elim (cases_lt (k.last.run.stop + gap) x.start) [
-        | inl far ↦
-            let past = passed_far gap x run far in
-            inr (inr (record {
-              last = later gap spans start x.start up k.last;
-              far = far;
-              done_is =
-                  ap₂ (λ (xs ys : List Interval). xs ++ ys) k.done_is (ap (λ runs. settled_by gap runs x) k.kept_is ∙ cond-true (is_closed gap x run) (run ∷ []) [] past)
-                  ∙ sym (map-append (placed_on name) k.last.before (k.last.run ∷ []));
-              kept_is = ap (λ runs. runs_left_by gap runs x) k.kept_is ∙ cond-false (not (is_closed gap x run)) (run ∷ []) [] (not_from_true (is_closed gap x run) past);
-            }))
-        | inr near ↦
-            let stays = not_passed gap x run is near in
-            inr (inl (record {
-              last = later gap spans start x.start up k.last;
-              near = near;
-              done_is =
-                  ap (λ runs. done ++ runs) (ap (λ runs. settled_by gap runs x) k.kept_is ∙ cond-false (is_closed gap x run) (run ∷ []) [] stays)
-                  ∙ append-nil done ∙ k.done_is;
-              kept_is = ap (λ runs. runs_left_by gap runs x) k.kept_is ∙ cond-true (not (is_closed gap x run)) (run ∷ []) [] (not_from_false (is_closed gap x run) stays);
-            }))
-      ]
+  passes start done kept x is up (inr o) = inr (record {
+    last = later gap spans start x.start up o.last;
+    done_is = grind (arith, append_assoc, (moves_on gap name o.last.run x is start up));
+    kept_is = ap (λ runs. runs_left_by gap runs x) o.kept_is ∙ (moves_on gap name o.last.run x is start up).1;
+  })
 
   -- a record at the last start is joined to the run that is kept, or opens one
   adds : (done kept : List Interval) (x : Interval) → name ≡ x.chrom → x.start < x.stop → Runs gap name spans x.start done kept → Runs gap name (spans ++ span_of x ∷ []) x.start done (runs_with kept x)
-  adds done kept x is full (inl u) = inr (inl (record {
-    last = record { before = []; run = span_of x; at = x.start; up = omega arith; one = rw u.none (grind arith) };
-    near = omega arith;
-    done_is = u.done_is;
-    kept_is = rw (u.kept_is, is) refl;
-  }))
-  adds done kept x is full (inr (inl k)) = inr (inl (record {
-    last = record { before = k.last.before; run = longer k.last.run (span_of x); at = x.start; up = omega arith; one = join_open gap spans k.last.at k.last.before k.last.run (span_of x) k.last.one k.last.up full k.near };
-    near = omega arith;
-    done_is = k.done_is;
-    kept_is = rw k.kept_is refl;
-  }))
-  adds done kept x is full (inr (inr d)) = inr (inl (record {
-    last = record { before = d.last.before ++ d.last.run ∷ []; run = span_of x; at = x.start; up = omega arith; one = next_open gap spans d.last.at d.last.before d.last.run (span_of x) d.last.one full d.far };
-    near = omega arith;
-    done_is = d.done_is;
-    kept_is = rw (d.kept_is, is) refl;
-  }))
+  adds done kept x is full (inl u) =
+      let short : nat_lt (x.stop + gap) x.start ≡ false = le-ltb (x.stop + gap) x.start (omega arith) in
+      inr (record {
+        last = record { before = []; run = span_of x; at = x.start; up = omega arith; one = rw u.none (grind arith) };
+        done_is = rw (u.done_is, short) refl;
+        kept_is = rw (u.kept_is, short, is) refl;
+      })
+  adds done kept x is full (inr o) =
+      let short : nat_lt (x.stop + gap) x.start ≡ false = le-ltb (x.stop + gap) x.start (omega arith) in
+      elim (cases_lt (o.last.run.stop + gap) x.start) [
+        | inl far ↦
+            let was = lt-ltb (o.last.run.stop + gap) x.start far in
+            inr (record {
+              last = record { before = o.last.before ++ o.last.run ∷ []; run = span_of x; at = x.start; up = omega arith; one = next_open gap spans o.last.at o.last.before o.last.run (span_of x) o.last.one full far };
+              done_is = rw (o.done_is, was, short, map-append) (sym (append-nil (map (placed_on name) o.last.before ++ placed_on name o.last.run ∷ [])));
+              kept_is = rw (o.kept_is, was, short, is) refl;
+            })
+        | inr near ↦
+            let was = le-ltb (o.last.run.stop + gap) x.start near in
+            let now : nat_lt (max o.last.run.stop x.stop + gap) x.start ≡ false = le-ltb (max o.last.run.stop x.stop + gap) x.start (omega arith) in
+            inr (record {
+              last = record { before = o.last.before; run = longer o.last.run (span_of x); at = x.start; up = omega arith; one = join_open gap spans o.last.at o.last.before o.last.run (span_of x) o.last.one o.last.up full near };
+              done_is = rw (o.done_is, was, now) refl;
+              kept_is = rw (o.kept_is, was, now) refl;
+            })
+      ]
 
   -- a record elsewhere closes all
   pub gone : (start : ℕ) (done kept : List Interval) (x : Interval) → bytes_eq name x.chrom ≡ false → Runs gap name spans start done kept → (settled_by gap kept x ≡ kept) × (runs_left_by gap kept x ≡ [])
@@ -147,33 +141,22 @@ module _ (gap : ℕ) (strand : MergeStrand) where
       let passed = passes gap name spans start done kept x is up at in
       elim (cases_Bool (is_counted strand r.strand)) [
         | inl t ↦
-            let more = ap (spans_on name) (counted_next strand past r t) ∙ spans_on-push_here name (counted strand past) x (sym is) in
-            rw (more, cond-true (is_counted strand r.strand) (runs_with left x) left t) (adds gap name spans (done ++ settled_by gap kept x) left x is full passed)
+            let added = adds gap name spans (done ++ settled_by gap kept x) left x is full passed in
+            grind (arith, counted_next, spans_on-push_here)
         | inr n ↦ grind (arith, counted-append, append-nil)
       ]
 
   divides_on : (name : List ℕ) (past : List Feature) (last : Interval) (done kept : List Interval) → At gap strand name past last.start done kept → name ≡ last.chrom → Divides form (At gap strand) name past last done kept
   divides_on name past last done kept (inl u) is = grind (arith, runs_of-nil)
-  divides_on name past last done kept (inr (inl k)) is =
-      let run = placed_on name k.last.run in
-      let spans = spans_on name (counted strand past) in
-      let one = k.last.one in
+  divides_on name past last done kept (inr o) is =
+      let run = o.last.run in
+      let before = map (placed_on name) o.last.before in
+      let one = o.last.one in
       record {
-        all = ap (map (placed_on name)) (sym (open_runs gap spans k.last.at k.last.before k.last.run one)) ∙ map-append (placed_on name) k.last.before (k.last.run ∷ []) ∙ sym (ap₂ (λ (xs ys : List Interval). xs ++ ys) k.done_is k.kept_is);
-        done_over = rw k.done_is (passed_before gap 0 last name k.last.before k.last.run one.joined.apart (let h = k.last.up in let g = one.began in omega arith));
-        left_open = rw k.kept_is (cond-false (is_closed gap last run) (run ∷ []) [] (not_passed gap last run is k.near));
-      }
-  divides_on name past last done kept (inr (inr d)) is =
-      let run = placed_on name d.last.run in
-      let spans = spans_on name (counted strand past) in
-      let one = d.last.one in
-      let before = map (placed_on name) d.last.before in
-      record {
-        all = ap (map (placed_on name)) (sym (open_runs gap spans d.last.at d.last.before d.last.run one)) ∙ sym d.done_is ∙ sym (append-nil done) ∙ ap (λ runs. done ++ runs) (sym d.kept_is);
-        done_over = rw (d.done_is, map-append (placed_on name) d.last.before (d.last.run ∷ []), filter-append (is_closed gap last) before (run ∷ []))
-            (ap₂ (λ (xs ys : List Interval). xs ++ ys) (passed_before gap 0 last name d.last.before d.last.run one.joined.apart (let h = d.last.up in let g = one.began in omega arith))
-            (cond-true (is_closed gap last run) (run ∷ []) [] (passed_far gap last run d.far)));
-        left_open = rw d.kept_is refl;
+        all = ap (map (placed_on name)) (sym (open_runs gap (spans_on name (counted strand past)) o.last.at o.last.before run one)) ∙ map-append (placed_on name) o.last.before (run ∷ []) ∙ (grind (arith, append_assoc, (done_and_kept gap name run last.start)));
+        done_over = rw (o.done_is, filter-append (is_closed gap last) before (if_done gap name run last.start))
+            (ap₂ (λ (xs ys : List Interval). xs ++ ys) (passed_before gap 0 last name o.last.before run one.joined.apart (let h = o.last.up in let g = one.began in omega arith)) (is_over gap name run last is).0);
+        left_open = rw o.kept_is (is_over gap name run last is).1;
       }
 
   nothing_settled : settled_runs gap strand [] ≡ []
@@ -253,10 +236,7 @@ module _ (gap : ℕ) (strand : MergeStrand) where
   next_by : {names : List (List ℕ)} (distinct : AreDistinct (map (λ name. name) names)) {past : List Feature} {r : Feature} {kept : List Interval} → kept_runs gap strand past ≡ kept
       → {items : List Interval} {before : List (List ℕ)} {key : List ℕ} {after : List (List ℕ)} {now : List Interval} → Written (form gap strand) (At gap strand) names past → Written (form gap strand) (At gap strand) names (past ++ r ∷ [])
       → Moves (form gap strand) (At gap strand) names past r items before key after now → items ≡ settled_by gap kept (interval_of r) → now ≡ kept_by gap strand kept r → Next gap strand past r
-  next_by {names} distinct {past} {r} was {before} {key} {after} {now} w_past w m settles keeps = record {
-    settles = m.settles w_past w ∙ ap (λ runs. settled_runs gap strand past ++ runs) (settles ∙ ap (λ runs. settled_by gap runs (interval_of r)) (sym was));
-    keeps = kept_is gap strand names distinct (past ++ r ∷ []) before key after now m.here w ∙ keeps ∙ ap (λ runs. kept_by gap strand runs r) (sym was);
-  }
+  next_by {names} distinct {past} {r} was {before} {key} {after} {now} w_past w m settles keeps = grind (arith, (m.settles w_past w), (kept_is gap strand names distinct (past ++ r ∷ []) before key after now m.here w))
 
   module _ (names : List (List ℕ)) (distinct : AreDistinct (map (λ name. name) names)) where
     next_from : (past : List Feature) (r : Feature) → InOrder (map (λ name. name) names) (past ++ r ∷ []) → Written (form gap strand) (At gap strand) names past → Written (form gap strand) (At gap strand) names (past ++ r ∷ [])
@@ -280,8 +260,7 @@ module _ (gap : ℕ) (strand : MergeStrand) where
           | inr g ↦
               let passed = gone gap b.key _ s.last.start s.done b.state x g.other s.at in
               next_by distinct held was w (goes_to (form gap strand) (At gap strand) names debts distinct r s g full)
-              (append-nil (b.state ++ bares (form gap strand) g.middle) ∙ ap (λ runs. b.state ++ runs) (none_bare gap strand g.middle) ∙ append-nil b.state ∙ sym passed.0)
-              (ap (λ left. cond (is_counted strand r.strand) (runs_with left x) left) (sym passed.1))
+              (grind (arith, append-nil, (none_bare gap strand g.middle))) (grind arith)
         ]
 
   pub next_taken : (past : List Feature) (r : Feature) → AreMergeable (past ++ r ∷ []) → Next gap strand past r
@@ -299,10 +278,7 @@ module _ (gap : ℕ) (strand : MergeStrand) where
       let past = q ∷ qs in
       let s = b.here in
       let is = kept_is gap strand names distinct past b.before b.key b.after b.state s w in
-      record {
-        all = all_runs gap strand names distinct past b.before b.key b.after b.state s w ∙ ap (λ runs. settled_runs gap strand past ++ runs) (sym is);
-        few = rw is (few gap b.key _ s.last.start s.done b.state s.at);
-      }
+      grind (arith, (all_runs gap strand names distinct past b.before b.key b.after b.state s w), (few gap b.key _ s.last.start s.done b.state s.at))
 
   pub whole_taken : (past : List Feature) → AreMergeable past → Whole gap strand past
   whole_taken past t = grind (arith, whole_from, (append-nil past), begun, (owes gap strand (map (λ name. name) (ordered gap strand past t).keys)))

@@ -1,18 +1,19 @@
 -- The runs of several strands, listed by their first records: what one more record does to the list.
-use Rattle.bt_lines.proofs.Std.{AllByRecursion, rules, ◌≡◌, ℕ, ◌≤◌, inl, inr, List, [], ◌∷◌, ◌++◌, append-nil, refl, sym, ap, ap₂, ◌∙◌, subst, arith, cond, filter, length, map, Bool, true, false, not, ◌&&◌, ◌||◌, list_any, cases_Bool, cond-true, cond-false, false≢true, not_from_true, not_from_false, length-map, map-append, ◌+◌, ◌<◌, ◌⊎◌, append_assoc, and_parts, false_from_ne_true, filter-append, recursion_from_All, any-filter_same}
-use Rattle.bt_bed.specs.model.Feature.{Feature, interval_of, intervals_of, Interval, last_from, last_of, is_strand}
+use Rattle.bt_lines.proofs.Std.{AllByRecursion, rules, ◌≡◌, ℕ, ◌≤◌, inl, inr, List, [], ◌∷◌, ◌++◌, append-nil, refl, sym, ap, ◌∙◌, subst, arith, cond, filter, length, map, Bool, true, false, not, ◌&&◌, list_any, cases_Bool, cond-true, cond-false, false≢true, map-append, ◌+◌, ◌<◌, ◌⊎◌, append_assoc, false_from_ne_true, filter-append, recursion_from_All, any-filter_same}
+use Rattle.bt_bed.specs.model.Feature.{Feature, interval_of, intervals_of, Interval, last_of, is_strand}
 use Rattle.bt_bed.specs.model.Sorted.{has_records}
 use Rattle.bt_bed.specs.calls.Orders.{AreContiguous}
 use Rattle.bt_bed.specs.declared.record.strand.Strand.{Strand}
 use Rattle.bt_bed.proofs.lemmas.order.OrderLemmas.{last_of-push}
 use Rattle.bt_runs.specs.model.Merged.{merged, is_closed, merged_runs, StrandRun, runs_of_strand, begun_by, is_in, listed_behind, strand_runs}
-use Rattle.bt_runs.specs.calls.MergedRuns.{AreMergeable, settled_runs}
-use Rattle.bt_runs.specs.inside.merge.UnstrandedStep.{joined_run, runs_left_by, settled_by, runs_with}
+use Rattle.bt_runs.specs.calls.MergedRuns.{AreMergeable, kept_runs, settled_runs}
+use Rattle.bt_runs.specs.inside.merge.UnstrandedStep.{runs_left_by, settled_by, runs_with}
 use Rattle.bt_runs.specs.inside.merge.StrandStep.{run_from, run_with}
+use Rattle.bt_runs.specs.declared.merge.merge_strand.MergeStrand.{MergeStrand}
 use Rattle.bt_runs.specs.declared.merge.merge_strand.MergeStrand.TheVariants.{One}
 use Rattle.bt_runs.proofs.lemmas.order.ByChromosome.{intervals_next, full_front, full_last}
 use Rattle.bt_runs.proofs.lemmas.definitions.Standing.{has_records-here, counted-append}
-use Rattle.bt_runs.proofs.lemmas.Lists.{Some_of, all_and, all_any, all_both, all_filter, all_front, all_map, all_so, all_swapped, all_unmap, any_from, any_same, any_some, filter_changed, filter_none, filter_passes, map_leaves, none_each, none_from, some_each, some_left, some_map, some_out, some_right, some_weaker}
+use Rattle.bt_runs.proofs.lemmas.Lists.{Some_of, all_and, all_any, all_both, all_filter, all_front, all_map, all_so, all_back, all_unmap, all_zip, any_from, any_same, any_some, filter_changed, filter_none, filter_passes, none_each, none_from, some_each, some_left, some_map, some_right, some_with, some_weaker}
 use Rattle.bt_runs.proofs.lemmas.merge.SettledRuns.{next_taken, taken_front, whole_taken}
 
 -- strands that are one
@@ -27,47 +28,6 @@ pub up_to : (xs : List Interval) (r : Interval) → AreContiguous (xs ++ r ∷ [
 up_to [] r t = tt
 up_to (x ∷ []) r t = (λ e. elim t.0 [ inl s ↦ s.1 | inr gone ↦ absurd (not_gone x r [] e gone) ], tt)
 up_to (x ∷ y ∷ ys) r t = grind (arith, (up_to (y ∷ ys) r t.1), not_gone)
-
--- and so does the last one, on the same chromosome
-pub last_there : (x : Interval) (xs : List Interval) (r : Interval) → AreContiguous (x ∷ xs ++ r ∷ []) → AllByRecursion (λ p. p.chrom ≡ r.chrom → ((last_from x xs).chrom ≡ r.chrom) × ((last_from x xs).start ≤ r.start)) (x ∷ xs)
-last_there x [] r t = (λ e. (e, (up_to (x ∷ []) r t).0 e), tt)
-last_there x (y ∷ ys) r t = grind (arith, (last_there y ys r t.1), not_gone)
-
--- one more record and the runs of one strand, of which it closes all but one at most
-module _ (gap : ℕ) (x : Interval) where
-  abbrev pub is_open : Interval → Bool
-  is_open run = not (is_closed gap x run)
-
-  abbrev pub joined : Interval → Interval
-  joined run = cond (is_open run) (joined_run run x) run
-
-  abbrev pub IsPassed : Interval → Type 0
-  IsPassed run = is_closed gap x run ≡ true
-
-  passed_leaves : (runs : List Interval) → AllByRecursion IsPassed runs → AllByRecursion (λ run. joined run ≡ run) runs
-  passed_leaves runs = all_so IsPassed (λ run. joined run ≡ run) runs (λ run p. cond-false (is_open run) (joined_run run x) run (not_from_true (is_closed gap x run) p))
-
-  passed_closed : (runs : List Interval) → AllByRecursion IsPassed runs → AllByRecursion (λ run. is_open run ≡ false) runs
-  passed_closed runs = all_so IsPassed (λ run. is_open run ≡ false) runs (λ run p. not_from_true (is_closed gap x run) p)
-
-  none_open : (runs : List Interval) → AllByRecursion IsPassed runs → runs ++ x ∷ [] ≡ map joined runs ++ cond (list_any is_open runs) [] (x ∷ [])
-  none_open runs passed = grind (arith, map_leaves, passed_leaves, none_from, passed_closed)
-
-  pub grown_runs : (done kept : List Interval) → AllByRecursion IsPassed done → length kept ≤ 1
-      → (done ++ settled_by gap kept x) ++ runs_with (runs_left_by gap kept x) x ≡ map joined (done ++ kept) ++ cond (list_any is_open (done ++ kept)) [] (x ∷ [])
-  grown_runs done [] passed few = none_open (done ++ []) (rw (append-nil done) passed)
-  grown_runs done (k ∷ []) passed few = elim (cases_Bool (is_closed gap x k)) [
-    | inl t ↦ grind (arith, none_open, all_both)
-    | inr f ↦
-        let opened = not_from_false (is_closed gap x k) f in
-        ap₂ (λ (a b : List Interval). (done ++ a) ++ runs_with b x) (cond-false (is_closed gap x k) (k ∷ []) [] f) (cond-true (is_open k) (k ∷ []) [] opened)
-        ∙ ap (λ l. l ++ joined_run k x ∷ []) (append-nil done)
-        ∙ sym (ap₂ (λ (a b : List Interval). a ++ b)
-        (map-append joined done (k ∷ []) ∙ ap₂ (λ (a b : List Interval). a ++ b) (map_leaves joined done (passed_leaves done passed)) (ap (λ y. y ∷ []) (cond-true (is_open k) (joined_run k x) k opened)))
-        (cond-true (list_any is_open (done ++ k ∷ [])) [] (x ∷ []) (any_from is_open (done ++ k ∷ []) (some_right (λ run. is_open run ≡ true) done (k ∷ []) (inl opened))))
-        ∙ append-nil (done ++ joined_run k x ∷ []))
-  ]
-  grown_runs done (k ∷ l ∷ ls) passed few = absurd (omega arith)
 
 -- a record is joined to a run of its strand that it doesn't close
 abbrev pub reaches : ℕ → Feature → StrandRun → Bool
@@ -84,41 +44,64 @@ new_run reached r = cond reached [] (run_from r ∷ [])
 abbrev pub on_strand : Strand → Interval → StrandRun
 on_strand strand run = record { strand = strand; run = run }
 
-reaches_open : (gap : ℕ) (r : Feature) (run : Interval) → reaches gap r (on_strand r.strand run) ≡ is_open gap (interval_of r) run
-reaches_open gap r run = ap (λ b. b && is_open gap (interval_of r) run) (strand_self r.strand)
+-- the runs with the record
+abbrev pub grown : ℕ → Feature → List StrandRun → List StrandRun
+grown gap r items = map (joined_to gap r) items ++ new_run (list_any (reaches gap r) items) r
 
-joined_all : (gap : ℕ) (r : Feature) (runs : List Interval) → map (joined_to gap r) (map (on_strand r.strand) runs) ≡ map (on_strand r.strand) (map (joined gap (interval_of r)) runs)
-joined_all gap r [] = refl
-joined_all gap r (run ∷ runs) = ap₂ (λ y ys. y ∷ ys) (grind arith) (joined_all gap r runs)
+module _ (gap : ℕ) (r : Feature) where
+  abbrev pub Unreached : List StrandRun → Type 0
+  Unreached items = AllByRecursion (λ item. reaches gap r item ≡ false) items
 
-reaches_any : (gap : ℕ) (r : Feature) (runs : List Interval) → list_any (reaches gap r) (map (on_strand r.strand) runs) ≡ list_any (is_open gap (interval_of r)) runs
-reaches_any gap r [] = refl
-reaches_any gap r (run ∷ runs) = ap₂ (λ (a b : Bool). a || b) (reaches_open gap r run) (reaches_any gap r runs)
+  -- the first ones stay as they are if it reaches none of them
+  pub grown_behind : (front items : List StrandRun) → Unreached front → grown gap r (front ++ items) ≡ front ++ grown gap r items
+  grown_behind [] items e = refl
+  grown_behind (f ∷ fs) items e = rw (e.0) (ap (λ l. f ∷ l) (grown_behind fs items e.1))
 
--- the merged runs of one strand: those that the record closes, and one more at most
-pub record Parted (gap : ℕ) (r : Feature) (runs : List StrandRun) : Type 0 where
-  pub done : List StrandRun
-  pub kept : List StrandRun
-  pub all : runs ≡ done ++ kept
-  pub passed : AllByRecursion (λ item. reaches gap r item ≡ false) done
-  pub few : length kept ≤ 1
+  -- and a run of its strand is joined or closed
+  one_grown : (kept : List Interval) → length kept ≤ 1
+      → map (on_strand r.strand) (settled_by gap kept (interval_of r) ++ runs_with (runs_left_by gap kept (interval_of r)) (interval_of r)) ≡ grown gap r (map (on_strand r.strand) kept)
+  one_grown [] few = refl
+  one_grown (k ∷ []) few = elim (cases_Bool (is_closed gap (interval_of r) k)) [ inl t ↦ rw (strand_self r.strand, t) refl | inr f ↦ rw (strand_self r.strand, f) refl ]
+  one_grown (k ∷ l ∷ ls) few = absurd (omega arith)
 
 module _ (gap : ℕ) (past : List Feature) (r : Feature) (taken : AreMergeable (past ++ r ∷ [])) where
   -- what is settled of a strand's runs is closed by the record
-  settled_passed : AllByRecursion (IsPassed gap (interval_of r)) (settled_runs gap (One r.strand) past)
+  pub settled_passed : (strand : MergeStrand) → AllByRecursion (λ run. is_closed gap (interval_of r) run ≡ true) (settled_runs gap strand past)
   unfolding settled_runs
-  settled_passed =
+  settled_passed strand =
       let x = interval_of r in
-      let strand = One r.strand in
       let last = ap last_of (intervals_next past r) ∙ last_of-push (intervals_of past) x in
       grind (arith, all_front, (next_taken gap strand past r taken), (filter_passes (is_closed gap x) (merged_runs gap strand (past ++ r ∷ []))))
 
-  -- so one more record is joined to a run of its strand, or is a new one after them
-  pub same_next : runs_of_strand gap (past ++ r ∷ []) r.strand ≡ map (joined_to gap r) (runs_of_strand gap past r.strand) ++ new_run (list_any (reaches gap r) (runs_of_strand gap past r.strand)) r
-  same_next = grind (arith, map-append, joined_all, reaches_any, next_taken, whole_taken, grown_runs, settled_passed, taken_front)
+  -- a strand's runs: those that the record doesn't reach, and one more at most
+  pub record Parted : Type 0 where
+    pub done : List StrandRun
+    pub kept : List Interval
+    pub all : runs_of_strand gap past r.strand ≡ done ++ map (on_strand r.strand) kept
+    pub unreached : Unreached gap r done
+    pub few : length kept ≤ 1
+    pub next : runs_of_strand gap (past ++ r ∷ []) r.strand ≡ done ++ map (on_strand r.strand) (settled_by gap kept (interval_of r) ++ runs_with (runs_left_by gap kept (interval_of r)) (interval_of r))
 
-  pub parted : Parted gap r (runs_of_strand gap past r.strand)
-  parted = grind (arith, map-append, settled_passed, whole_taken, taken_front, length-map, all_map, all_so)
+  pub parted : Parted
+  parted =
+      let strand = One r.strand in
+      let whole = whole_taken gap strand past (taken_front past (r ∷ []) taken) in
+      let more = whole_taken gap strand (past ++ r ∷ []) taken in
+      let step = next_taken gap strand past r taken in
+      record {
+        done = map (on_strand r.strand) (settled_runs gap strand past);
+        kept = kept_runs gap strand past;
+        all = grind (arith, map-append);
+        unreached = grind (arith, all_map, all_so, (settled_passed strand));
+        few = whole.few;
+        next = grind (arith, map-append, append_assoc, strand_self);
+      }
+
+  -- so one more record is joined to a run of its strand, or is a new one after them
+  pub same_next : runs_of_strand gap (past ++ r ∷ []) r.strand ≡ grown gap r (runs_of_strand gap past r.strand)
+  same_next =
+      let p = parted in
+      grind (arith, (one_grown gap r p.kept p.few), (grown_behind gap r p.done (map (on_strand r.strand) p.kept) p.unreached))
 
 -- The runs of several strands, listed by their first records: what one more record does to the list.
 
@@ -176,19 +159,23 @@ module _ (gap : ℕ) (r : Feature) where
   pub same_in : (item : StrandRun) (p : Feature) → IsWithinOrFar gap item p → (p.chrom ≡ r.chrom → p.start ≤ r.start) → is_in (joined_to gap r item) p ≡ is_in item p
   same_in item p apart up = search rules
 
-  -- and none lies in a new run
+  -- those of a new run's strand end before it
+  before_new : (items : List StrandRun) → AllByRecursion (λ item. reaches gap r item ≡ false) items → (p : Feature) → Some_of (λ item. Lies item p) items → r.strand ≡ p.strand → r.chrom ≡ p.chrom → p.stop < r.start
+  before_new items none p some same on = some_with (λ item. Lies item p) (λ item. reaches gap r item ≡ false) (p.stop < r.start) (λ item l f. let far = unreached item f (l.same ∙ sym same) (l.on ∙ sym on) in let h = l.to in omega arith) items some none
+
+  -- and so none lies in it
   pub not_in_new : (items : List StrandRun) → AllByRecursion (λ item. reaches gap r item ≡ false) items → (p : Feature) → Some_of (λ item. Lies item p) items → p.start < p.stop → is_in (run_from r) p ≡ false
   not_in_new items none p some full = false_from_ne_true (is_in (run_from r) p) (λ i.
       let l = true_lies (run_from r) p i in
-      some_out (λ item. Lies item p × (reaches gap r item ≡ false)) ⊥ (λ item both.
-      let far = unreached item both.1 (both.0.same ∙ sym l.same) (both.0.on ∙ sym l.on) in
-      let h = both.0.to in let g = l.from in absurd (omega arith))
-      items (some_each (λ item. Lies item p) (λ item. reaches gap r item ≡ false) (λ item. Lies item p × (reaches gap r item ≡ false)) (λ item a b. (a, b)) items some none))
+      let h = before_new items none p some l.same l.on in let g = l.from in absurd (omega arith))
 
 module _ (gap : ℕ) (past : List Feature) (r : Feature) (taken : AreMergeable (past ++ r ∷ [])) (listed : Listed gap past) where
   -- whether the record is joined to a run
   abbrev pub some_reached : Bool
   some_reached = list_any (reaches gap r) (strand_runs gap past)
+
+  abbrev Up : Feature → Type 0
+  Up p = p.chrom ≡ r.chrom → p.start ≤ r.start
 
   pub up : AllByRecursion (λ p. p.chrom ≡ r.chrom → p.start ≤ r.start) past
   up = grind (arith, all_unmap, up_to, intervals_next)
@@ -200,9 +187,7 @@ module _ (gap : ℕ) (past : List Feature) (r : Feature) (taken : AreMergeable (
   full = full_last past r taken.full
 
   reached_split : list_any (reaches gap r) (runs_of_strand gap past r.strand) ≡ some_reached
-  reached_split =
-      ap (list_any (reaches gap r)) (sym (listed.split r.strand))
-      ∙ any-filter_same (reaches gap r) (λ item. is_strand item.strand r.strand) true (λ item t. (and_parts (is_strand item.strand r.strand) (not (is_closed gap (interval_of r) item.run)) t).0) (strand_runs gap past)
+  reached_split = rw (← (listed.split r.strand)) (any-filter_same (reaches gap r) (λ item. is_strand item.strand r.strand) true (λ item t. grind arith) (strand_runs gap past))
 
   -- the runs of each strand, with the record
   leaves_other : (strand : Strand) (runs : List Interval) → is_strand strand r.strand ≡ false → map (joined_to gap r) (map (on_strand strand) runs) ≡ map (on_strand strand) runs
@@ -216,91 +201,79 @@ module _ (gap : ℕ) (past : List Feature) (r : Feature) (taken : AreMergeable (
   of_strand : (P : StrandRun → Type 0) → AllByRecursion P (strand_runs gap past) → (strand : Strand) → AllByRecursion P (runs_of_strand gap past strand)
   of_strand P each strand = rw (← (listed.split strand)) (all_filter P (λ item. is_strand item.strand strand) (strand_runs gap past) each)
 
-  -- the record changes nothing about where another lies
-  record Stays (p : Feature) : Type 0 where
-    same : (strand : Strand) → AllByRecursion (λ item. is_in (joined_to gap r item) p ≡ is_in item p) (runs_of_strand gap past strand)
-    not_new : some_reached ≡ false → is_in (run_from r) p ≡ false
+  abbrev Same : StrandRun → Feature → Type 0
+  Same item p = is_in (joined_to gap r item) p ≡ is_in item p
 
-  abbrev Known : Feature → Type 0
-  Known p = ((p.chrom ≡ r.chrom → p.start ≤ r.start) × (p.start < p.stop)) × (AllByRecursion (λ item. IsWithinOrFar gap item p) (strand_runs gap past) × Some_of (λ item. Lies item p) (strand_runs gap past))
+  -- the record changes nothing about where others lie
+  record Stays (others : List Feature) : Type 0 where
+    same : (strand : Strand) → AllByRecursion (λ item. AllByRecursion (Same item) others) (runs_of_strand gap past strand)
+    not_new : some_reached ≡ false → AllByRecursion (λ p. is_in (run_from r) p ≡ false) others
 
-  known : AllByRecursion Known past
-  known =
-      let Up : Feature → Type 0 = λ p. p.chrom ≡ r.chrom → p.start ≤ r.start in
-      let Full : Feature → Type 0 = λ p. p.start < p.stop in
-      let Apart : Feature → Type 0 = λ p. AllByRecursion (λ item. IsWithinOrFar gap item p) (strand_runs gap past) in
-      let In : Feature → Type 0 = λ p. Some_of (λ item. Lies item p) (strand_runs gap past) in
-      grind (arith, all_and, (all_and Up Full past up some_base), (all_and Apart In past (all_swapped (λ item p. IsWithinOrFar gap item p) (strand_runs gap past) past listed.apart) listed.lies))
-
-  stays : AllByRecursion Stays past
-  stays = all_so Known Stays past (λ p k. record {
-    same = of_strand (λ item. is_in (joined_to gap r item) p ≡ is_in item p)
-        (all_so (λ item. IsWithinOrFar gap item p) (λ item. is_in (joined_to gap r item) p ≡ is_in item p) (strand_runs gap past) (λ item apart. same_in gap r item p apart k.0.0) k.1.0);
-    not_new = λ f. not_in_new gap r (strand_runs gap past) (none_each (reaches gap r) (strand_runs gap past) f) p k.1.1 k.0.1;
-  }) known
+  stays : Stays past
+  stays = record {
+    same = of_strand (λ item. AllByRecursion (Same item) past)
+        (all_so (λ item. AllByRecursion (λ p. IsWithinOrFar gap item p) past) (λ item. AllByRecursion (Same item) past) (strand_runs gap past) (λ item apart. all_zip (λ p. IsWithinOrFar gap item p) Up (Same item) past (same_in gap r item) apart up) listed.apart);
+    not_new = λ f. all_zip (λ p. Some_of (λ item. Lies item p) (strand_runs gap past)) (λ p. p.start < p.stop) (λ p. is_in (run_from r) p ≡ false) past (not_in_new gap r (strand_runs gap past) (none_each (reaches gap r) (strand_runs gap past) f)) listed.lies some_base;
+  }
 
   -- a record of before begins the run that it began
-  begun_same : (before : List Feature) (q : Feature) → AllByRecursion Stays before → Stays q
+  begun_same : (before : List Feature) (q : Feature) (rest : List Feature) → Stays (before ++ q ∷ rest)
       → begun_by (runs_of_strand gap (past ++ r ∷ []) q.strand) before q ≡ map (joined_to gap r) (begun_by (runs_of_strand gap past q.strand) before q)
-  begun_same before q front s =
-      let runs = runs_of_strand gap past q.strand in
+  begun_same before q rest s =
       let Test : StrandRun → Bool = λ item. is_in item q && not (list_any (is_in item) before) in
-      let old = all_swapped (λ p item. is_in (joined_to gap r item) p ≡ is_in item p) before runs (all_so Stays (λ p. AllByRecursion (λ item. is_in (joined_to gap r item) p ≡ is_in item p) runs) before (λ p st. st.same q.strand) front) in
-      let alike = all_so (λ item. (is_in (joined_to gap r item) q ≡ is_in item q) × AllByRecursion (λ p. is_in (joined_to gap r item) p ≡ is_in item p) before) (λ item. Test (joined_to gap r item) ≡ Test item) runs (λ item e. ap₂ (λ (a b : Bool). a && not b) e.0 (any_same (is_in (joined_to gap r item)) (is_in item) before e.1))
-      (all_and (λ item. is_in (joined_to gap r item) q ≡ is_in item q) (λ item. AllByRecursion (λ p. is_in (joined_to gap r item) p ≡ is_in item p) before) runs (s.same q.strand) old) in
+      let alike = all_so (λ item. AllByRecursion (Same item) (before ++ q ∷ rest)) (λ item. Test (joined_to gap r item) ≡ Test item) (runs_of_strand gap past q.strand) (λ item e. grind (arith, (all_back (Same item) before (q ∷ rest) e), (all_front (Same item) before (q ∷ rest) e), any_same)) (s.same q.strand) in
+      let apart : some_reached ≡ false → is_in (run_from r) q ≡ false = λ f. (all_back (λ p. is_in (run_from r) p ≡ false) before (q ∷ rest) (s.not_new f)).0 in
       grind (arith, runs_next, filter-append, filter_changed, append-nil)
 
-  front_same : (before rest : List Feature) → AllByRecursion Stays before → AllByRecursion Stays rest
+  front_same : (before rest : List Feature) → Stays (before ++ rest)
       → listed_behind (runs_of_strand gap (past ++ r ∷ [])) before rest ≡ map (joined_to gap r) (listed_behind (runs_of_strand gap past) before rest)
-  front_same before [] front e = refl
-  front_same before (q ∷ qs) front e = grind (arith, (front_same (before ++ q ∷ []) qs (all_both Stays before (q ∷ []) front (e.0, tt)) e.1), begun_same, map-append)
+  front_same before [] s = refl
+  front_same before (q ∷ qs) s = grind (arith, (front_same (before ++ q ∷ []) qs (subst Stays (sym (append_assoc before (q ∷ []) qs)) s)), (begun_same before q qs s), map-append)
+
+  own_lies : Lies (run_from r) r
+  own_lies = record { same = refl; on = refl; from = omega arith; to = omega arith }
 
   -- the record itself begins a run if it reaches none
   abbrev begins : StrandRun → Bool
   begins item = is_in item r && not (list_any (is_in item) past)
 
-  begins_no_old : (item : StrandRun) → item.strand ≡ r.strand → Some_of (λ p. Lies item p) past → begins (joined_to gap r item) ≡ false
-  begins_no_old item same has = grind (arith, any_from, some_weaker, lies_true)
+  begins_no_old : (item : StrandRun) → Some_of (λ p. Lies item p) past → begins (joined_to gap r item) ≡ false
+  begins_no_old item has = grind (arith, any_from, some_weaker, lies_true)
 
   last_begun : begun_by (runs_of_strand gap (past ++ r ∷ []) r.strand) past r ≡ new_run some_reached r
   last_begun =
       let runs = runs_of_strand gap past r.strand in
-      let each = all_and (λ item. is_strand item.strand r.strand ≡ true) (λ item. Some_of (λ p. Lies item p) past) runs
-      (rw (← (listed.split r.strand)) (filter_passes (λ item. is_strand item.strand r.strand) (strand_runs gap past)))
-      (of_strand (λ item. Some_of (λ p. Lies item p) past) listed.has r.strand) in
       let none = filter_none begins (map (joined_to gap r) runs) (all_map (λ item. begins item ≡ false) (joined_to gap r) runs
-      (all_so (λ item. (is_strand item.strand r.strand ≡ true) × Some_of (λ p. Lies item p) past) (λ item. begins (joined_to gap r item) ≡ false) runs (λ item e. begins_no_old item (grind arith) e.1) each)) in
-      let here = lies_true (run_from r) r (record { same = refl; on = refl; from = omega arith; to = omega arith }) in
-      let new : filter begins (new_run some_reached r) ≡ new_run some_reached r = elim (cases_Bool some_reached) [
-        | inl t ↦ ap (λ b. filter begins (new_run b r)) t ∙ ap (λ b. new_run b r) (sym t)
-        | inr f ↦ grind (arith, none_from, all_so, stays)
-      ] in
+      (of_strand (λ item. begins (joined_to gap r item) ≡ false) (all_so (λ item. Some_of (λ p. Lies item p) past) (λ item. begins (joined_to gap r item) ≡ false) (strand_runs gap past) begins_no_old listed.has) r.strand)) in
+      let here = lies_true (run_from r) r own_lies in
+      let no_other : some_reached ≡ false → list_any (is_in (run_from r)) past ≡ false = λ f. none_from (is_in (run_from r)) past (stays.not_new f) in
       grind (arith, runs_next, filter-append)
 
   -- so the list with the record: it is joined to a run that it reaches, or comes last
   pub listing_next : strand_runs gap (past ++ r ∷ []) ≡ map (joined_to gap r) (strand_runs gap past) ++ new_run some_reached r
   unfolding strand_runs
-  listing_next = grind (arith, listed_append, front_same, stays, last_begun)
+  listing_next = grind (arith, listed_append, (front_same [] past stays), last_begun)
 
-  -- the new run, if there is one
-  of_new : (P : StrandRun → Type 0) → (some_reached ≡ false → P (run_from r)) → AllByRecursion P (new_run some_reached r)
-  of_new P new = grind arith
+  -- what is so of each listed run is so of each with the record
+  each_next : (P Q : StrandRun → Type 0) → ((item : StrandRun) → P item → Q (joined_to gap r item)) → (some_reached ≡ false → Q (run_from r)) → AllByRecursion P (strand_runs gap past) → AllByRecursion Q (strand_runs gap (past ++ r ∷ []))
+  each_next P Q old new each =
+      let newest : AllByRecursion Q (new_run some_reached r) = grind arith in
+      rw listing_next (all_both Q (map (joined_to gap r) (strand_runs gap past)) (new_run some_reached r) (all_map Q (joined_to gap r) (strand_runs gap past) (all_so P (λ item. Q (joined_to gap r item)) (strand_runs gap past) old each)) newest)
 
   next_lies : AllByRecursion (λ p. Some_of (λ item. Lies item p) (strand_runs gap (past ++ r ∷ []))) (past ++ r ∷ [])
   next_lies =
       let old = strand_runs gap past in
       let In : Feature → List StrandRun → Type 0 = λ p items. Some_of (λ item. Lies item p) items in
       let before = all_so (λ p. In p old) (λ p. In p (map (joined_to gap r) old ++ new_run some_reached r)) past (λ p some. some_left (λ item. Lies item p) (map (joined_to gap r) old) (new_run some_reached r)
-      (some_map (λ item. Lies item p) (joined_to gap r) old (some_weaker (λ item. Lies item p) (λ item. Lies (joined_to gap r item) p) (λ item l. lies_joined gap r item p l) old some))) listed.lies in
+      (some_map (λ item. Lies item p) (joined_to gap r) old (some_weaker (λ item. Lies item p) (λ item. Lies (joined_to gap r item) p) (λ item. lies_joined gap r item p) old some))) listed.lies in
       let last : In r (map (joined_to gap r) old ++ new_run some_reached r) = elim (cases_Bool some_reached) [
         | inl t ↦ some_left (λ item. Lies item r) (map (joined_to gap r) old) (new_run some_reached r) (some_map (λ item. Lies item r) (joined_to gap r) old
             (some_each (λ item. reaches gap r item ≡ true) (λ item. Some_of (λ p. Lies item p) past) (λ item. Lies (joined_to gap r item) r) (λ item reach has.
             let now = reached gap r item reach in
-            some_out (λ p. Lies item p × (p.chrom ≡ r.chrom → p.start ≤ r.start)) (Lies (joined_to gap r item) r) (λ p both.
-            let low = both.1 (sym both.0.on ∙ now.on) in
-            let from = both.0.from in
-            rw (join_is gap r item reach) (record { same = now.same; on = now.on; from = omega arith; to = omega arith }))
-            past (some_each (λ p. Lies item p) (λ p. p.chrom ≡ r.chrom → p.start ≤ r.start) (λ p. Lies item p × (p.chrom ≡ r.chrom → p.start ≤ r.start)) (λ p a b. (a, b)) past has up))
+            some_with (λ p. Lies item p) Up (Lies (joined_to gap r item) r) (λ p l low.
+            let h = low (sym l.on ∙ now.on) in
+            let from = l.from in
+            rw (join_is gap r item reach) (record { same = now.same; on = now.on; from = omega arith; to = omega arith })) past has up)
             old (any_some (reaches gap r) old t) listed.has))
         | inr f ↦ grind (arith, some_right)
       ] in
@@ -308,39 +281,23 @@ module _ (gap : ℕ) (past : List Feature) (r : Feature) (taken : AreMergeable (
 
   next_has : AllByRecursion (λ item. Some_of (λ p. Lies item p) (past ++ r ∷ [])) (strand_runs gap (past ++ r ∷ []))
   next_has =
-      let old = strand_runs gap past in
-      let Has : StrandRun → Type 0 = λ item. Some_of (λ p. Lies item p) (past ++ r ∷ []) in
-      rw listing_next (all_both Has (map (joined_to gap r) old) (new_run some_reached r)
-      (all_map Has (joined_to gap r) old (all_so (λ item. Some_of (λ p. Lies item p) past) (λ item. Has (joined_to gap r item)) old (λ item has. some_left (λ p. Lies (joined_to gap r item) p) past (r ∷ []) (some_weaker (λ p. Lies item p) (λ p. Lies (joined_to gap r item) p) (λ p l. lies_joined gap r item p l) past has)) listed.has))
-      (of_new Has (λ f. some_right (λ p. Lies (run_from r) p) past (r ∷ []) (inl (record { same = refl; on = refl; from = omega arith; to = omega arith })))))
+      each_next (λ item. Some_of (λ p. Lies item p) past) (λ item. Some_of (λ p. Lies item p) (past ++ r ∷ []))
+      (λ item has. some_left (λ p. Lies (joined_to gap r item) p) past (r ∷ []) (some_weaker (λ p. Lies item p) (λ p. Lies (joined_to gap r item) p) (lies_joined gap r item) past has))
+      (λ f. some_right (λ p. Lies (run_from r) p) past (r ∷ []) (inl own_lies)) listed.has
 
   -- a run that was listed before
   apart_old : (item : StrandRun) → AllByRecursion (λ p. IsWithinOrFar gap item p) past → AllByRecursion (λ p. IsWithinOrFar gap (joined_to gap r item) p) (past ++ r ∷ [])
-  apart_old item each = elim (cases_Bool (reaches gap r item)) [
-    | inr f ↦ rw (join_not gap r item f) (all_both (λ p. IsWithinOrFar gap item p) past (r ∷ []) each (λ same on. inr (unreached gap r item f same on), tt))
-    | inl t ↦ grind (arith, (reached gap r item t), all_both, all_so, (all_and (λ p. IsWithinOrFar gap item p) (λ p. p.chrom ≡ r.chrom → p.start ≤ r.start) past each up))
-  ]
+  apart_old item each = grind (arith, (reached gap r item), (unreached gap r item), all_both, all_so, (all_and (λ p. IsWithinOrFar gap item p) Up past each up))
 
   apart_new : some_reached ≡ false → AllByRecursion (λ p. IsWithinOrFar gap (run_from r) p) (past ++ r ∷ [])
   apart_new f =
       let none = none_each (reaches gap r) (strand_runs gap past) f in
       all_both (λ p. IsWithinOrFar gap (run_from r) p) past (r ∷ [])
-      (all_so (λ p. Some_of (λ item. Lies item p) (strand_runs gap past)) (λ p. IsWithinOrFar gap (run_from r) p) past (λ p some same on. inl (some_out (λ item. Lies item p × (reaches gap r item ≡ false)) (p.stop ≤ r.stop) (λ item both.
-      let far = unreached gap r item both.1 (both.0.same ∙ sym same) (both.0.on ∙ sym on) in
-      let h = both.0.to in let g = full in omega arith)
-      (strand_runs gap past) (some_each (λ item. Lies item p) (λ item. reaches gap r item ≡ false) (λ item. Lies item p × (reaches gap r item ≡ false)) (λ item a b. (a, b)) (strand_runs gap past) some none))) listed.lies)
+      (all_so (λ p. Some_of (λ item. Lies item p) (strand_runs gap past)) (λ p. IsWithinOrFar gap (run_from r) p) past (λ p some same on. let h = before_new gap r (strand_runs gap past) none p some same on in let g = full in inl (omega arith)) listed.lies)
       (λ same on. inl (omega arith), tt)
 
-  next_apart : AllByRecursion (λ item. AllByRecursion (λ p. IsWithinOrFar gap item p) (past ++ r ∷ [])) (strand_runs gap (past ++ r ∷ []))
-  next_apart =
-      let old = strand_runs gap past in
-      let Apart : StrandRun → Type 0 = λ item. AllByRecursion (λ p. IsWithinOrFar gap item p) (past ++ r ∷ []) in
-      rw listing_next (all_both Apart (map (joined_to gap r) old) (new_run some_reached r)
-      (all_map Apart (joined_to gap r) old (all_so (λ item. AllByRecursion (λ p. IsWithinOrFar gap item p) past) (λ item. Apart (joined_to gap r item)) old apart_old listed.apart))
-      (of_new Apart apart_new))
-
   pub listed_next : Listed gap (past ++ r ∷ [])
-  listed_next = record { lies = next_lies; has = next_has; apart = next_apart; split = grind (arith, listing_next, filter-append, filter_changed, all_any, runs_next) }
+  listed_next = record { lies = next_lies; has = next_has; apart = each_next (λ item. AllByRecursion (λ p. IsWithinOrFar gap item p) past) (λ item. AllByRecursion (λ p. IsWithinOrFar gap item p) (past ++ r ∷ [])) apart_old apart_new listed.apart; split = grind (arith, listing_next, filter-append, filter_changed, all_any, runs_next) }
 
 -- so it is of all records
 listed_none : (gap : ℕ) → Listed gap []

@@ -1,5 +1,6 @@
 -- From the exact step of a merge of all its records together to what it writes after the records of the past.
 use Rattle.bt_lines.proofs.Std.{Option, None, Some, arith, ◌≡◌, ℕ, false, List, [], ◌∷◌, ◌++◌, Result, Ok, Err, refl, sym, ap, ◌∙◌, append-nil, bytes_eq, flat_map-append}
+use Rattle.std.proofs.lemmas.List.{same_from_push}
 use Rattle.bt_lines.specs.calls.Faults.{no_memory}
 use Rattle.bt_lines.specs.calls.Names.{fault_value}
 use Rattle.bt_lines.specs.calls.Output.{Output, Adds, FailsToAdd, Grown}
@@ -25,12 +26,7 @@ counted_alike (Some wanted) strand = refl
 
 -- the last element of a list is that element
 pub last_is : {A : Type 0} (xs ys : List A) (x y : A) → xs ++ x ∷ [] ≡ ys ++ y ∷ [] → x ≡ y
-last_is [] [] x y e = cc
-last_is [] (z ∷ []) x y e = absurd (cc)
-last_is [] (z ∷ w ∷ ys) x y e = absurd (cc)
-last_is (z ∷ []) [] x y e = absurd (cc)
-last_is (z ∷ w ∷ xs) [] x y e = absurd (cc)
-last_is (z ∷ xs) (w ∷ ys) x y e = last_is xs ys x y (cc)
+last_is xs ys x y e = (same_from_push xs ys x y e).1
 
 module _ (old : Unstranded) where
   -- what is done with a record exactly is done after every past
@@ -55,13 +51,7 @@ module _ (old : Unstranded) (run : OpenRun) (is : kept_at old.chrom run ≡ old.
   pub enters_other : (now : Unstranded) (through : Output) → now.gap ≡ old.gap → now.strand ≡ old.strand → now.chrom ≡ name → now.kept ≡ [] → Grown out (interval_lines old.kept) through
       → EnterAnswers unstranded_rule old name out (Ok tt) now through
   enters_other now through gap strand on none put = enters (fits old) (interval_lines old.kept) {mid = now} put
-      (λ r at. (passes r at).0 ∙ sym (append-nil (interval_lines old.kept)) ∙ ap (λ kept. interval_lines old.kept ++ interval_lines (settled_by now.gap kept (interval_of r))) (sym none))
-      (λ r at new p. record {
-        gap = p.gap ∙ gap;
-        strand = p.strand ∙ strand;
-        chrom = p.chrom;
-        kept = p.kept ∙ rw (gap, strand, none, (passes r at).1) refl;
-      })
+      (λ r at. grind (arith, append-nil, (passes r at))) (λ r at new p. grind (arith, (passes r at)))
       (λ r at elsewhere. absurd (elsewhere (on ∙ sym at)))
 
   -- or the run couldn't be written

@@ -1,5 +1,5 @@
 -- The steps of a merge that keeps the strands apart.
-use Rattle.std.specs.Prelude.{⊤, ℕ, suc, Bool, cond, List, [], ◌∷◌, ◌++◌, drop, get_or, length, set, Option, Some, None, true, false, not, ◌||◌, map, max, nat_lt, ◌≡◌, ◌⊎◌, Result, Ok, Err}
+use Rattle.std.specs.Prelude.{⊤, ℕ, suc, Bool, cond, List, [], ◌∷◌, ◌++◌, drop, length, set, Option, Some, None, true, false, not, ◌||◌, map, max, nat_lt, ◌≡◌, ◌⊎◌, Result, Ok, Err}
 use Rattle.std.specs.List.{slice_get, take_while}
 use Rattle.bt_bed.specs.model.Feature.{Feature, interval_of, is_strand}
 use Rattle.bt_bed.specs.declared.record.strand.Strand.{Strand}
@@ -45,14 +45,22 @@ abbrev pub last_place : {A : Type 0} → (A → Bool) → List A → Option ℕ
 last_place test [] = None
 last_place test (x ∷ xs) = place_among (test x) (last_place test xs)
 
+-- whether the element at a place is lengthened, which it isn't if it is over, and the elements then
+module _ {A : Type 0} (over : A → Bool) (longer : A → A) (xs : List A) where
+  abbrev pub joined_here : ℕ → Option A → Bool × List A
+  joined_here place None = (false, xs)
+  joined_here place (Some x) = cond (over x) (false, xs) (true, set xs place (longer x))
+
+  abbrev pub joined_at : Option ℕ → Bool × List A
+  joined_at None = (false, xs)
+  joined_at (Some place) = joined_here place (slice_get xs place)
+
 -- the runs with the record, if the last run of its strand is at this place: joined to that
 -- run, unless it closes it, and else as the last one
 abbrev pub added_at : ℕ → List StrandRun → Feature → Option ℕ → List StrandRun
-added_at gap items r None = items ++ run_from r ∷ []
-added_at gap items r (Some place) =
-    cond (is_closed gap (interval_of r) (get_or items place (run_from r)).run)
-    (items ++ run_from r ∷ [])
-    (set items place (run_with r (get_or items place (run_from r))))
+added_at gap items r place =
+    let joined = joined_at (λ item. is_closed gap (interval_of r) item.run) (run_with r) items place in
+    cond joined.0 joined.1 (items ++ run_from r ∷ [])
 
 -- the runs with the record
 abbrev pub with_added : ℕ → List StrandRun → Feature → List StrandRun
@@ -85,14 +93,9 @@ lengthened stop run = record { strand = run.strand; start = run.start; stop = ma
 
 -- whether a record is joined to the run at a place, which must not end below `reach`,
 -- and the runs with it
-abbrev pub joined_here : ℕ → ℕ → List PendingRun → ℕ → Option PendingRun → Bool × List PendingRun
-joined_here reach stop runs place None = (false, runs)
-joined_here reach stop runs place (Some run) =
-    cond (nat_lt run.stop reach) (false, runs) (true, set runs place (lengthened stop run))
-
 abbrev pub with_joined : ℕ → ℕ → List PendingRun → Option ℕ → Bool × List PendingRun
-with_joined reach stop runs None = (false, runs)
-with_joined reach stop runs (Some place) = joined_here reach stop runs place (slice_get runs place)
+with_joined reach stop runs place =
+    joined_at (λ (w : PendingRun). nat_lt w.stop reach) (lengthened stop) runs place
 
 -- a run on the chromosome of this name
 abbrev pub placed_run : List ℕ → PendingRun → StrandRun
