@@ -70,9 +70,7 @@ impl Rule for PerStrandMerge {
         if is_same_name(self.chrom.as_slice(), chrom) {
             return Ok(());
         }
-        if let Err(fault) = self.runs.put_all(self.chrom.as_slice(), out) {
-            return Err(fault);
-        }
+        self.runs.put_all(self.chrom.as_slice(), out)?;
         self.chrom.clear();
         if let Err(AllocError) = self.chrom.extend_from_slice(chrom) {
             return Err(no_memory());
