@@ -90,9 +90,7 @@ impl Rule for UnstrandedMerge {
         if is_same_name(self.chrom.as_slice(), chrom) {
             return Ok(());
         }
-        if let Err(fault) = put_run(self.chrom.as_slice(), self.run, out) {
-            return Err(fault);
-        }
+        put_run(self.chrom.as_slice(), self.run, out)?;
         self.run = NONE;
         self.chrom.clear();
         if self.chrom.extend_from_slice(chrom).is_err() {
