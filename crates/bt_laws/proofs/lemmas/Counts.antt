@@ -1,5 +1,5 @@
 -- Sums, pairs and bases.
-use Rattle.bt_lines.proofs.Std.{common_steps, ◌≡◌, ℕ, zero, suc, ◌+◌, ◌-◌, ◌*◌, ◌<◌, ◌≤◌, Bool, false, cond, List, [], ◌∷◌, map, filter, max, min, Option, Some, None, inl, inr, refl, sym, ap, ap₂, ◌∙◌, arith, ◌⊎◌, bytes_eq, flat_map, sum_by, or_parts, mul-suc, sum_by-append, sum_by-cons, ◌++◌, append_assoc, subst, IsPermutation, flat_map-append, map-append, IsPermutation-append_comm, IsPermutation-append_left, IsPermutation-append_right, IsPermutation-refl, IsPermutation-trans, flat_map-map, cases_Bool, false≢true}
+use Rattle.bt_lines.proofs.Std.{common_steps, ◌≡◌, ℕ, zero, suc, ◌+◌, ◌-◌, ◌*◌, ◌<◌, ◌≤◌, false, cond, List, [], ◌∷◌, map, filter, max, min, Option, Some, None, inl, inr, refl, sym, ap, ap₂, ◌∙◌, arith, ◌⊎◌, bytes_eq, flat_map, sum_by, or_parts, mul-suc, sum_by-append, sum_by-cons, ◌++◌, append_assoc, subst, IsPermutation, flat_map-append, map-append, IsPermutation-append_comm, IsPermutation-append_left, IsPermutation-append_right, IsPermutation-refl, IsPermutation-trans, flat_map-map, cases_Bool, false≢true}
 use Rattle.bt_bed.specs.model.Feature.{Feature, intervals_of, Interval, Span, spans_on, placed_on}
 use Rattle.bt_bed.specs.calls.Stretches.{IsCovered}
 use Rattle.bt_bed.specs.model.Genome.{Entry, genome_names}
@@ -12,7 +12,6 @@ use Rattle.bt_bed.specs.calls.LevelScan.{Begun, begun_after, ended_after, levels
 use Rattle.bt_runs.specs.model.Depth.{coverage, depth_at, depth_of, depths_on, is_counted_by, levels_of}
 use Rattle.bt_runs.specs.calls.Complementing.{length_in}
 use Rattle.bt_runs.proofs.lemmas.order.FileOrder.{spans_on-append}
-use Rattle.bt_bed.proofs.lemmas.LevelScans.{levels_more}
 use Rattle.bt_laws.specs.Counts.{depth_bases, depths_sum, IsMutual, HitPair, exchanged, pair_line, pairs_have_two_sides, pairs_of, with_sides_exchanged, PartBases, intersect_and_subtract_part}
 use Rattle.bt_laws.specs.WholeRuns.{first_records, second_records, RunWrites}
 use Rattle.bt_laws.proofs.lemmas.pipes.PipeLaws.{depth_both, chroms_of, genomecov_whole, intersect_whole, well_there, cut_intersect_input, subtract_input, report_there}
@@ -62,17 +61,10 @@ IsLow (Some b) p = b.start ≤ p
 one_longer : (v p s : ℕ) → s ≤ p → v * ((p + 1) - s) ≡ v * (p - s) + v
 one_longer v p s low = grind (arith, (mul-suc v (p - s)))
 
-just_one : (v p : ℕ) → v * ((p + 1) - p) ≡ v
-just_one v p = grind arith
-
-sum_one : (l : Level) → sum_by weight (l ∷ []) ≡ weight l
-sum_one l = sum_by-cons weight l [] ∙ omega arith
-
 levels_sum : (value : ℕ → Option ℕ) (n p : ℕ) (g : Option Begun) → IsLow g p → sum_by weight (levels_from value p n g) ≡ pending g p + total (λ q. value_in (value q)) p n
 unfolding total ended_after begun_after
 levels_sum value zero p g low = grind arith
-levels_sum value (suc n) p g low =
-    grind (arith, levels_more, sum_by-append, just_one, sum_one, one_longer, (levels_sum value n (p + 1) (next_begun p (value p) g) (grind arith)))
+levels_sum value (suc n) p g low = grind (arith, sum_by-append, one_longer, (levels_sum value n (p + 1) (next_begun p (value p) g) (grind arith)))
 
 -- ---- depths
 
@@ -83,14 +75,11 @@ total_same f h n p e = grind arith
 total_both : (f h : ℕ → ℕ) (n p : ℕ) → total (λ q. f q + h q) p n ≡ total f p n + total h p n
 unfolding total
 total_both f h zero p = refl
-total_both f h (suc n) p = let more = total_both f h n (p + 1) in omega (arith, more)
+total_both f h (suc n) p = grind (arith, (total_both f h n (p + 1)))
 
 depth_value : (spans : List Span) (q : ℕ) → value_in (depth_of false spans q) ≡ depth_at spans q
 unfolding depth_of
 depth_value spans q = grind arith
-
-abbrev one_if : Bool → ℕ
-one_if b = cond b 1 0
 
 span_sum : (s : Span) (n p : ℕ) → total (λ q. depth_at (s ∷ []) q) p n ≡ min s.stop (p + n) - max s.start p
 unfolding total
@@ -103,7 +92,7 @@ below size s = min s.stop size - s.start
 no_depth : (n p : ℕ) → total (λ q. depth_at [] q) p n ≡ 0
 unfolding total
 no_depth zero p = refl
-no_depth (suc n) p = let more = no_depth n (p + 1) in omega (arith, more)
+no_depth (suc n) p = grind (arith, (no_depth n (p + 1)))
 
 spans_sum : (spans : List Span) (size : ℕ) → total (λ q. depth_at spans q) 0 size ≡ sum_by (below size) spans
 spans_sum [] size = no_depth size 0
@@ -129,7 +118,7 @@ absent_size (entry ∷ entries) name e =
 
 no_entries : (rs : List Interval) → sum_by (bases_in []) rs ≡ 0
 no_entries [] = refl
-no_entries (r ∷ rs) = let cons = sum_by-cons (bases_in []) r rs in let more = no_entries rs in omega (arith, cons, more)
+no_entries (r ∷ rs) = grind (arith, (sum_by-cons (bases_in []) r rs), (no_entries rs))
 
 one_entry : (entry : Entry) (entries : List Entry) (rs : List Interval) → is_among (genome_names entries) entry.name ≡ false
     → sum_by (below entry.length) (spans_on entry.name rs) + sum_by (bases_in entries) rs ≡ sum_by (bases_in (entry ∷ entries)) rs
@@ -156,13 +145,9 @@ sum_depths strand inputs entries well =
 
 -- ---- a rule that asks the same of both
 
-enough_swap : (rule : HitRule) (bases : ℕ) (a b : Feature) → IsMutual rule → is_enough rule bases a b ≡ is_enough rule bases b a
-unfolding is_enough
-enough_swap rule bases a b p1 = grind (arith, enough_of_nothing)
-
 hits_swap : (rule : HitRule) (a b : Feature) → IsMutual rule → hits rule a b ≡ hits rule b a
-unfolding hits strands_agree
-hits_swap rule a b even = grind (arith, enough_swap, name_eq-sym)
+unfolding hits strands_agree is_enough
+hits_swap rule a b even = grind (arith, enough_of_nothing, name_eq-sym)
 
 -- ---- lists of lists
 
@@ -279,7 +264,7 @@ module _ (bs : List Feature) where
   HasBase name p = IsCovered (spans_on name (intervals_of bs)) p
 
   cut_so : (a : Feature) (p : ℕ) → IsCovered (cuts a) p → (a.start ≤ p) × (p < a.stop) × HasBase a.chrom p
-  cut_so a p c = let is = cut_covered a (hits_among any_overlap a bs) p c in (is.1, is.2, hit_to a bs p is.0)
+  cut_so a p c = grind (arith, cut_covered, hit_to)
 
   left_so : (a : Feature) (p : ℕ) → IsCovered (lefts a) p → (a.start ≤ p) × (p < a.stop) × (HasBase a.chrom p → ⊥)
   left_so a p c = grind (arith, (are_pieces a (hits_among any_overlap a bs)), hit_back)
@@ -291,14 +276,11 @@ module _ (bs : List Feature) where
       → Some_of (HasAt cuts name p) as_read ⊎ Some_of (HasAt lefts name p) as_read
   each_at name p [] w = absurd w
   each_at name p (a ∷ more) (inl w) = elim (one_of a p w.1 w.2) [ inl c ↦ inl (inl (w.0, c)) | inr c ↦ inr (inl (w.0, c)) ]
-  each_at name p (a ∷ more) (inr w) = elim (each_at name p more w) [ inl c ↦ inl (inr c) | inr c ↦ inr (inr c) ]
+  each_at name p (a ∷ more) (inr w) = grind (arith, (each_at name p more w))
 
   each_of : (as_read : List Feature) (name : List ℕ) (p : ℕ) → IsCovered (spans_on name (intervals_of as_read)) p
       → IsCovered (spans_on name (places cuts as_read)) p ⊎ IsCovered (spans_on name (places lefts as_read)) p
-  each_of as_read name p c = elim (each_at name p as_read (some_covers name p as_read c)) [
-    | inl w ↦ inl (some_place cuts name p as_read w)
-    | inr w ↦ inr (some_place lefts name p as_read w)
-  ]
+  each_of as_read name p c = grind (arith, each_at, some_covers, some_place)
 
   pub bases_part : (as_read : List Feature) → PartBases (intervals_of as_read) (places cuts as_read) (places lefts as_read)
   bases_part as_read = record {
@@ -312,7 +294,7 @@ module _ (bs : List Feature) where
 
 cut_each : (a : Feature) (found : List Feature) → intervals_of (records_for Cut a found) ≡ map (placed_on a.chrom) (map (cut_span a) found)
 cut_each a [] = refl
-cut_each a (b ∷ found) = ap (λ l. placed_on a.chrom (cut_span a b) ∷ l) (cut_each a found)
+cut_each a (b ∷ found) = grind (arith, (cut_each a found))
 
 cut_places : (bs as_read : List Feature) → intervals_of (records_written Cut any_overlap as_read bs) ≡ places (cuts bs) as_read
 cut_places bs as_read = grind (arith, map_flat, cut_each)

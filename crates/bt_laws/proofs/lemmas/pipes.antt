@@ -1,9 +1,7 @@
 -- Lemmas on pipes.
 pub mod ConvertPipes
-pub mod DepthParts
 pub mod LinesBack
 pub mod PipeLaws
 pub mod Placing
 pub mod RunsBack
 pub mod SweepBack
-pub mod SweepRead

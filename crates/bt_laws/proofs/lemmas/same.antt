@@ -1,7 +1,6 @@
 -- Lemmas on same.
 pub mod GapsHit
 pub mod LengthLaws
-pub mod MaskSorted
 pub mod MaskTwice
 pub mod SameRuns
 pub mod SameSweeps

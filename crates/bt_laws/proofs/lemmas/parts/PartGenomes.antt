@@ -1,28 +1,27 @@
 -- Records of parts, each with its own part of the genome file.
-use Rattle.bt_lines.proofs.Std.{rules, ◌≡◌, ℕ, suc, ◌+◌, ◌<◌, true, false, cond, List, [], ◌∷◌, ◌++◌, ◌||◌, length, Option, Some, None, inl, refl, sym, ap, ◌∙◌, arith, subst, IsTrue, bytes_eq, is_some, option_map, or_parts, AllByRecursion, map-append, flat_map-append, append-nil, ⊤, list_any, list_any-append}
-use Rattle.std.specs.declared.cmp.Ordering.TheVariants.{Less}
+use Rattle.bt_lines.proofs.Std.{rules, ◌≡◌, ℕ, ◌+◌, ◌<◌, true, false, cond, List, [], ◌∷◌, ◌++◌, ◌||◌, length, Option, Some, None, inl, refl, sym, ap, ◌∙◌, arith, subst, IsTrue, bytes_eq, is_some, option_map, or_parts, AllByRecursion, map-append, flat_map-append, append-nil, ⊤, list_any, list_any-append}
+use Rattle.std.specs.declared.cmp.Ordering.TheVariants.{Less, Greater}
 use Rattle.bt_bed.specs.model.Order.{Order, is_among, rank_of, rank_order}
 use Rattle.bt_bed.specs.calls.Orders.{AreDistinct, IsTotal, ArePlaced, IsPlacedBefore}
 use Rattle.bt_bed.proofs.lemmas.parse.NameLemmas.{same_name, name_ne-sym}
 use Rattle.bt_bed.proofs.lemmas.order.OrderLemmas.{among_ranked}
-use Rattle.bt_runs.proofs.lemmas.order.FileOrder.{spans_on-append, spans_on-none}
 use Rattle.bt_runs.proofs.lemmas.definitions.Standing.{known_rank}
 use Rattle.bt_lines.specs.model.Lines.{TextLine}
 use Rattle.bt_lines.specs.declared.fault.Input.{Input}
-use Rattle.bt_bed.specs.model.Feature.{Feature, interval_of, intervals_of, Interval, last_from, last_of, spans_on}
+use Rattle.bt_bed.specs.model.Feature.{Feature, interval_of, intervals_of, Interval, last_from, last_of}
 use Rattle.bt_bed.specs.model.BedLine.{record_of}
 use Rattle.bt_bed.specs.model.Genome.{Entry, genome_names}
 use Rattle.bt_bed.specs.model.Good.{good_from, bed_format, line_says}
 use Rattle.bt_bed.specs.model.Sorted.{Locus, sorting_of, has_records}
 use Rattle.bt_laws.specs.Parts.{LiesWithin, ComeBefore, StandsBefore, said_records}
-use Rattle.bt_laws.proofs.lemmas.parts.PartBed.{alike_records, records_on, Earlier}
-use Rattle.bt_laws.proofs.lemmas.parts.PartLines.{alike_lines, lines_join}
-use Rattle.bt_runs.proofs.lemmas.Lists.{all_back, all_front, all_so, all_map, all_swapped}
+use Rattle.bt_laws.proofs.lemmas.parts.PartLines.{alike_records, records_on, Earlier, alike_lines, lines_join}
+use Rattle.bt_runs.proofs.lemmas.Lists.{all_back, all_front, all_so, all_map, all_swapped, all_unmap}
+use Rattle.bt_laws.proofs.lemmas.pipes.LinesBack.{placed_known}
 use Rattle.bt_laws.proofs.lemmas.single.Sequences.{owners_stay_so}
-use Rattle.bt_seq.proofs.lemmas.definitions.KnowsLemmas.{is_last, leave, one_leaves}
+use Rattle.bt_seq.proofs.lemmas.definitions.KnowsLemmas.{is_last, leave, leave_all, one_leaves}
 use Rattle.bt_seq.proofs.lemmas.definitions.MaskPrefixLemmas.{chrom_of, none_leaves}
-use Rattle.bt_seq.proofs.lemmas.Sam.{Tagged, last_from as last_tagged, own_in, own_tagged, tag_decides, tag_items, tags, tags_append, tags_of}
-use Rattle.bt_seq.specs.model.Masked.{items_if_last, names_behind as sequences_behind, own_records}
+use Rattle.bt_seq.proofs.lemmas.Sam.{last_from as last_tagged, own_in, own_tagged, Tagged, tag_decides, tag_items, tags, tags_append, tags_of}
+use Rattle.bt_seq.specs.model.Masked.{block_decides, items_if_last, names_behind as sequences_behind, own_records}
 
 abbrev shifted : ℕ → Option ℕ → Option ℕ
 shifted k rank = option_map (λ r. k + r) rank
@@ -30,25 +29,15 @@ shifted k rank = option_map (λ r. k + r) rank
 -- whether a name is among two lists of names
 pub among_append : (xs ys : List (List ℕ)) (name : List ℕ) → is_among (xs ++ ys) name ≡ (is_among xs name || is_among ys name)
 among_append [] ys name = refl
-among_append (x ∷ xs) ys name = ap (λ b. bytes_eq x name || b) (among_append xs ys name) ∙ (grind arith)
+among_append (x ∷ xs) ys name = grind (arith, (among_append xs ys name))
 
 rank_none : (xs : List (List ℕ)) (name : List ℕ) → is_among xs name ≡ false → rank_of xs name ≡ None
 rank_none xs name e = grind (arith, (among_ranked xs name), (rank_of xs name))
 
--- the rank of a name that isn't among the first names
-pub rank_behind : (xs ys : List (List ℕ)) (name : List ℕ) → is_among xs name ≡ false → rank_of (xs ++ ys) name ≡ shifted (length xs) (rank_of ys name)
-rank_behind [] ys name e = sym (grind arith)
-rank_behind (x ∷ xs) ys name e = grind (arith, (rank_behind xs ys name (or_parts (bytes_eq x name) (is_among xs name) e).1))
-
--- of one that isn't among the later ones
-pub rank_before : (xs ys : List (List ℕ)) (name : List ℕ) → is_among ys name ≡ false → rank_of (xs ++ ys) name ≡ rank_of xs name
-rank_before [] ys name e = rank_none ys name e
-rank_before (x ∷ xs) ys name e = ap (λ o. cond (bytes_eq x name) (Some 0) (option_map (λ r. suc r) o)) (rank_before xs ys name e)
-
--- of one that is among the first ones
-pub rank_first : (xs ys : List (List ℕ)) (name : List ℕ) → is_among xs name ≡ true → rank_of (xs ++ ys) name ≡ rank_of xs name
-rank_first [] ys name e = cc
-rank_first (x ∷ xs) ys name e = grind (arith, (rank_first xs ys name))
+-- the rank of a name among two lists of names
+rank_both : (xs ys : List (List ℕ)) (name : List ℕ) → rank_of (xs ++ ys) name ≡ cond (is_among xs name) (rank_of xs name) (shifted (length xs) (rank_of ys name))
+rank_both [] ys name = sym (grind arith)
+rank_both (x ∷ xs) ys name = grind (arith, (rank_both xs ys name))
 
 -- what is among all names is among those of the part
 abbrev pub Within : List (List ℕ) → List (List ℕ) → List ℕ → Type 0
@@ -60,9 +49,6 @@ pub record Agree (mine yours : Order) (P : List ℕ → Type 0) : Type 0 where
   pub compare : (a b : List ℕ) → P a → P b → mine.compare a b ≡ yours.compare a b
 
 module _ (xs ys : List (List ℕ)) where
-  pub first_agree : Agree (rank_order (xs ++ ys)) (rank_order xs) (Within xs (xs ++ ys))
-  first_agree = grind (arith, rank_first, rank_before, among_append)
-
   module _ (distinct : AreDistinct (xs ++ ys)) where
     -- no name is among both
     not_first : (xs ys : List (List ℕ)) (name : List ℕ) → AreDistinct (xs ++ ys) → is_among ys name ≡ true → is_among xs name ≡ false
@@ -72,20 +58,13 @@ module _ (xs ys : List (List ℕ)) where
     pub no_first : (name : List ℕ) → is_among ys name ≡ true → is_among xs name ≡ false
     no_first name e = not_first xs ys name distinct e
 
-    pub second_agree : Agree (rank_order (xs ++ ys)) (rank_order ys) (Within ys (xs ++ ys))
-    second_agree = grind (arith, rank_behind, no_first, among_append)
-
   rank_low : (xs : List (List ℕ)) (name : List ℕ) (i : ℕ) → rank_of xs name ≡ Some i → i < length xs
   rank_low [] name i e = cc
   rank_low (x ∷ xs) name i e = grind (arith, (rank_of xs name), (rank_low xs name))
 
   -- a name of the first part comes before one of the second
-  pub first_less : (a b : List ℕ) → AreDistinct (xs ++ ys) → is_among xs a ≡ true → is_among ys b ≡ true → (rank_order (xs ++ ys)).compare a b ≡ Less
-  first_less a b distinct one two =
-      let i = known_rank (rank_of xs a) (among_ranked xs a ∙ one) in
-      let j = known_rank (rank_of ys b) (among_ranked ys b ∙ two) in
-      let low = rank_low xs a i.0 i.1 in
-      grind (arith, (rank_first xs ys a one), (rank_behind xs ys b (no_first distinct b two)))
+  pub first_less : (a b : List ℕ) → AreDistinct (xs ++ ys) → is_among xs a ≡ true → is_among ys b ≡ true → ((rank_order (xs ++ ys)).compare a b ≡ Less) × ((rank_order (xs ++ ys)).compare b a ≡ Greater)
+  first_less a b distinct one two = grind (arith, rank_low, (known_rank (rank_of xs a) (among_ranked xs a ∙ one)), (known_rank (rank_of ys b) (among_ranked ys b ∙ two)), (rank_both xs ys a), (rank_both xs ys b), (no_first distinct b two))
 
 -- ---- records of parts
 
@@ -106,21 +85,22 @@ module _ (mine yours : Order) (P : List ℕ → Type 0) (agree : Agree mine your
 
 -- names of the entries of both parts
 pub names_both : (ones twos : List Entry) → genome_names (ones ++ twos) ≡ genome_names ones ++ genome_names twos
-names_both ones twos = map-append (λ entry. entry.name) ones twos
+names_both ones twos = grind (arith, map-append)
 
 module _ (e_one e_two : List Entry) where
   pub agree_first : Agree (rank_order (genome_names (e_one ++ e_two))) (rank_order (genome_names e_one)) (Within (genome_names e_one) (genome_names (e_one ++ e_two)))
-  agree_first = grind (arith, (names_both e_one e_two), (first_agree (genome_names e_one) (genome_names e_two)))
+  agree_first = grind (arith, (names_both e_one e_two), rank_both, rank_none, among_append)
 
   module _ (distinct : AreDistinct (genome_names (e_one ++ e_two))) where
     pub apart_both : AreDistinct (genome_names e_one ++ genome_names e_two)
     apart_both = subst AreDistinct (names_both e_one e_two) distinct
 
     pub agree_second : Agree (rank_order (genome_names (e_one ++ e_two))) (rank_order (genome_names e_two)) (Within (genome_names e_two) (genome_names (e_one ++ e_two)))
-    agree_second = grind (arith, (names_both e_one e_two), (second_agree (genome_names e_one) (genome_names e_two) apart_both), apart_both)
+    agree_second = grind (arith, (names_both e_one e_two), rank_both, no_first, among_append)
 
-    pub entry_less : (a b : List ℕ) → is_among (genome_names e_one) a ≡ true → is_among (genome_names e_two) b ≡ true → (rank_order (genome_names (e_one ++ e_two))).compare a b ≡ Less
-    entry_less a b one two = subst (λ ns. (rank_order ns).compare a b ≡ Less) (sym (names_both e_one e_two)) (first_less (genome_names e_one) (genome_names e_two) a b apart_both one two)
+    pub entry_less : (a b : List ℕ) → is_among (genome_names e_one) a ≡ true → is_among (genome_names e_two) b ≡ true
+        → ((rank_order (genome_names (e_one ++ e_two))).compare a b ≡ Less) × ((rank_order (genome_names (e_one ++ e_two))).compare b a ≡ Greater)
+    entry_less a b one two = grind (arith, names_both, first_less)
 
     -- the records of the first part come before those of the second
     pub within_before : (ones twos : List Feature) → AllByRecursion (LiesWithin e_one (e_one ++ e_two)) ones → AllByRecursion (LiesWithin e_two (e_one ++ e_two)) twos → ComeBefore (rank_order (genome_names (e_one ++ e_two))) ones twos
@@ -142,7 +122,7 @@ off_found name [] e = refl
 off_found name (x ∷ xs) e = grind (arith, (off_found name xs (or_parts (bytes_eq x name) (is_among xs name) e).1))
 
 -- what isn't among names isn't among those after one of them
-pub off_behind : (name other : List ℕ) (xs now : Names) → is_among xs name ≡ false → sequences_behind other xs ≡ Some now → (is_among now name ≡ false) × (bytes_eq other name ≡ false)
+off_behind : (name other : List ℕ) (xs now : Names) → is_among xs name ≡ false → sequences_behind other xs ≡ Some now → (is_among now name ≡ false) × (bytes_eq other name ≡ false)
 off_behind name other [] now off e = cc
 off_behind name other (x ∷ xs) now off e = grind (arith, (off_behind name other xs now), (same_name x other))
 
@@ -175,51 +155,35 @@ own_first names ones twos lost = grind (arith, own_tagged, tags_first, flat_map-
 
 -- ---- after more names
 
-next_more : (left now more : Names) (last : Option (List ℕ)) (r : Feature) → one_leaves (Some left) last r ≡ Some now → one_leaves (Some (left ++ more)) last r ≡ Some (now ++ more)
+pub next_more : (left now more : Names) (last : Option (List ℕ)) (r : Feature) → one_leaves (Some left) last r ≡ Some now → one_leaves (Some (left ++ more)) last r ≡ Some (now ++ more)
 next_more left now more last r e = grind (arith, (owners_stay_so left more (r ∷ []) now))
 
--- the names left end with these
-abbrev pub EndsWith : Names → Tagged Feature → Type 0
-EndsWith more t = (xs : Names) × (t.left ≡ Some (xs ++ more))
+leaves_more : (names more rest : Names) (rs : List Feature) → leave (Some names) None rs ≡ Some rest → leave (Some (names ++ more)) None rs ≡ Some (rest ++ more)
+leaves_more names more rest rs e = grind (arith, leave_all, owners_stay_so)
 
-record Stays (left more : Names) (last : Option (List ℕ)) (rs : List Feature) (rest : Names) : Type 0 where
-  tagged : AllByRecursion (EndsWith more) (tags chrom_of (Some (left ++ more)) last rs)
-  leaves : leave (Some (left ++ more)) last rs ≡ Some (rest ++ more)
+-- if a name follows, no record masks the last sequence, nor decides a line of it
+not_last : (bases : ℕ) (front : Names) (n : List ℕ) (ns : Names) (rs : List Feature) → (items_if_last (Some (front ++ n ∷ ns)) rs ≡ []) × (block_decides bases (Some (front ++ n ∷ ns)) rs ≡ false)
+not_last bases [] n ns rs = (refl, refl)
+not_last bases (m ∷ front) n ns rs = (refl, refl)
 
-stays_from : (more rest : Names) (left : Names) (last : Option (List ℕ)) (rs : List Feature) → leave (Some left) last rs ≡ Some rest → Stays left more last rs rest
-stays_from more rest left last [] e = record { tagged = tt; leaves = let same : left ≡ rest = cc in ap (λ l. Some (l ++ more)) same }
-stays_from more rest left last (r ∷ rs) e = by_next (one_leaves (Some left) last r) refl e (λ now d. stays_from more rest now (Some r.chrom) rs d)
+-- none of these
+abbrev NoneOf : ℕ → List (Tagged Feature) → Type 0
+NoneOf bases ts = (own_in ts ≡ []) × (list_any (tag_decides bases) ts ≡ false)
+
+none_last : (bases : ℕ) (n : List ℕ) (ns left rest : Names) (last : Option (List ℕ)) (rs : List Feature) → leave (Some left) last rs ≡ Some rest → NoneOf bases (tags chrom_of (Some (left ++ n ∷ ns)) last rs)
+none_last bases n ns left rest last [] e = (refl, refl)
+none_last bases n ns left rest last (r ∷ rs) e = by_next (one_leaves (Some left) last r) refl e (λ now d. none_last bases n ns now rest (Some r.chrom) rs d)
   where
-    going : (now : Names) → one_leaves (Some (left ++ more)) last r ≡ Some (now ++ more) → Stays now more (Some r.chrom) rs rest → Stays left more last (r ∷ rs) rest
-    going now is next = grind arith
-
-    by_next : (o : Option Names) → one_leaves (Some left) last r ≡ o → leave o (Some r.chrom) rs ≡ Some rest → ((now : Names) → leave (Some now) (Some r.chrom) rs ≡ Some rest → Stays now more (Some r.chrom) rs rest) → Stays left more last (r ∷ rs) rest
+    by_next : (o : Option Names) → one_leaves (Some left) last r ≡ o → leave o (Some r.chrom) rs ≡ Some rest → ((now : Names) → leave (Some now) (Some r.chrom) rs ≡ Some rest → NoneOf bases (tags chrom_of (Some (now ++ n ∷ ns)) (Some r.chrom) rs)) → NoneOf bases (tags chrom_of (Some (left ++ n ∷ ns)) last (r ∷ rs))
     by_next None is e next = absurd (let apart : None ≡ Some rest = sym (none_leaves (Some r.chrom) rs) ∙ e in cc)
-    by_next (Some now) is e next = going now (next_more left now more last r is) (next now e)
-
--- if a name follows, no such record masks the last sequence, nor decides a line of it
-ends_own : (n : List ℕ) (ns : Names) (ts : List (Tagged Feature)) → AllByRecursion (EndsWith (n ∷ ns)) ts → own_in ts ≡ []
-ends_own n ns [] h = refl
-ends_own n ns (t ∷ ts) h = ap (λ (l : List Feature). l ++ own_in ts) (one t.item h.0.0 t.left h.0.1) ∙ ends_own n ns ts h.1
-  where
-    one : (item : Feature) (xs : Names) (left : Option Names) → left ≡ Some (xs ++ n ∷ ns) → items_if_last left (item ∷ []) ≡ []
-    one item [] left e = ap (λ l. items_if_last l (item ∷ [])) e
-    one item (x ∷ xs) left e = ap (λ l. items_if_last l (item ∷ [])) e
-
-ends_any : (bases : ℕ) (n : List ℕ) (ns : Names) (ts : List (Tagged Feature)) → AllByRecursion (EndsWith (n ∷ ns)) ts → list_any (tag_decides bases) ts ≡ false
-ends_any bases n ns [] h = refl
-ends_any bases n ns (t ∷ ts) h = ap (λ b. b || list_any (tag_decides bases) ts) (one t.item h.0.0 t.left h.0.1) ∙ ends_any bases n ns ts h.1
-  where
-    one : (item : Feature) (xs : Names) (left : Option Names) → left ≡ Some (xs ++ n ∷ ns) → tag_decides bases (record { item = item; left = left }) ≡ false
-    one item [] left e = ap (λ l. tag_decides bases (record { item = item; left = l })) e
-    one item (x ∷ xs) left e = ap (λ l. tag_decides bases (record { item = item; left = l })) e
+    by_next (Some now) is e next = grind (arith, (next_more left now (n ∷ ns) last r is), (not_last bases now n ns (r ∷ [])), (next now e))
 
 -- records of the first part alone decide no line of the second
 pub any_behind : (bases : ℕ) (names rest : Names) (n : List ℕ) (ns : Names) (ones : List Feature) → leave (Some names) None ones ≡ Some rest → list_any (tag_decides bases) (tags_of (names ++ n ∷ ns) ones) ≡ false
-any_behind bases names rest n ns ones e = ends_any bases n ns (tags_of (names ++ n ∷ ns) ones) (stays_from (n ∷ ns) rest names None ones e).tagged
+any_behind bases names rest n ns ones e = (none_last bases n ns names rest None ones e).1
 
 -- the names left by the first records, then the block of the first of the later ones
-next_enters : (rest more : Names) (last : Option (List ℕ)) (r : Feature) → one_leaves (Some rest) last r ≡ None → one_leaves (Some (rest ++ more)) last r ≡ sequences_behind r.chrom more
+pub next_enters : (rest more : Names) (last : Option (List ℕ)) (r : Feature) → one_leaves (Some rest) last r ≡ None → one_leaves (Some (rest ++ more)) last r ≡ sequences_behind r.chrom more
 next_enters rest more last r e = grind (arith, none_found)
 
 module _ (names rest : Names) (ones : List Feature) (kept : leave (Some names) None ones ≡ Some rest) where
@@ -232,31 +196,25 @@ module _ (names rest : Names) (ones : List Feature) (kept : leave (Some names) N
 
   later_tags : (more : Names) (twos : List Feature) → IsLost names ones twos → tags chrom_of (leave (Some (names ++ more)) None ones) (last_tagged None ones) twos ≡ tags_of more twos
   later_tags more [] lost = refl
-  later_tags more (r ∷ rs) lost = grind (arith, (stays_from more rest names None ones kept), (next_enters rest more (last_tagged None ones) r (lost_next r rs lost)))
+  later_tags more (r ∷ rs) lost = grind (arith, (leaves_more names more rest ones kept), (next_enters rest more (last_tagged None ones) r (lost_next r rs lost)))
 
   -- what the later records leave, after the names of the first part
   pub later_leave : (more : Names) (r : Feature) (rs : List Feature) → IsLost names ones (r ∷ rs) → leave (Some (names ++ more)) None (ones ++ r ∷ rs) ≡ leave (Some more) None (r ∷ rs)
-  later_leave more r rs lost = grind (arith, (stays_from more rest names None ones kept), next_enters, leave_append)
+  later_leave more r rs lost = grind (arith, (leaves_more names more rest ones kept), next_enters, leave_append)
 
   -- whether all belong to a sequence
   pub both_owned : (more : Names) (twos : List Feature) → IsLost names ones twos → is_some (leave (Some (names ++ more)) None (ones ++ twos)) ≡ is_some (leave (Some more) None twos)
-  both_owned more [] lost = grind (arith, is_some, leave, (append-nil ones), (stays_from more rest names None ones kept))
-  both_owned more (r ∷ rs) lost = ap is_some (grind (arith, (stays_from more rest names None ones kept), next_enters, leave_append))
+  both_owned more [] lost = grind (arith, (append-nil ones), (leaves_more names more rest ones kept))
+  both_owned more (r ∷ rs) lost = ap is_some (grind (arith, (leaves_more names more rest ones kept), next_enters, leave_append))
 
   module _ (n : List ℕ) (ns : Names) (twos : List Feature) (lost : IsLost names ones twos) where
-    tags_second : tags_of (names ++ n ∷ ns) (ones ++ twos) ≡ tags_of (names ++ n ∷ ns) ones ++ tags_of (n ∷ ns) twos
-    tags_second = tags_append (Some (names ++ n ∷ ns)) None ones twos ∙ ap (λ ts. tags_of (names ++ n ∷ ns) ones ++ ts) (later_tags (n ∷ ns) twos lost)
-
-    ends : AllByRecursion (EndsWith (n ∷ ns)) (tags_of (names ++ n ∷ ns) ones)
-    ends = (stays_from (n ∷ ns) rest names None ones kept).tagged
-
     -- a sequence of the second part is masked by its own records
     pub own_second : own_records (names ++ n ∷ ns) (ones ++ twos) ≡ own_records (n ∷ ns) twos
-    own_second = grind (arith, own_tagged, tags_second, flat_map-append, ends_own, ends)
+    own_second = grind (arith, own_tagged, (tags_append (Some (names ++ n ∷ ns)) None ones twos), (later_tags (n ∷ ns) twos lost), flat_map-append, (none_last 0 n ns names rest None ones kept))
 
     -- and its lines are decided by them
     pub any_second : (bases : ℕ) → list_any (tag_decides bases) (tags_of (names ++ n ∷ ns) (ones ++ twos)) ≡ list_any (tag_decides bases) (tags_of (n ∷ ns) twos)
-    any_second bases = grind (arith, tags_second, list_any-append, ends_any, ends)
+    any_second bases = grind (arith, (tags_append (Some (names ++ n ∷ ns)) None ones twos), (later_tags (n ∷ ns) twos lost), list_any-append, (any_behind bases names rest n ns ones kept))
 
 -- ---- names of one part alone
 
@@ -271,7 +229,7 @@ lost_more left more last (r ∷ rs) off e =
 
 -- a record that is named as no sequence belongs to none
 lost_by : (left : Names) (last : Option (List ℕ)) (ones : List Feature) (r : Feature) → is_last last r.chrom ≡ false → is_among left r.chrom ≡ false → leave (Some left) last (ones ++ r ∷ []) ≡ None
-lost_by left last [] r apart off = ap (λ b. cond b (Some left) (sequences_behind r.chrom left)) apart ∙ off_found r.chrom left off
+lost_by left last [] r apart off = grind (arith, off_found)
 lost_by left last (s ∷ ss) r apart off =
     grind (arith, (sequences_behind s.chrom left), none_leaves, off_behind, (same_name s.chrom r.chrom), (λ (now : Names). lost_by now (Some s.chrom) ss r))
 
@@ -284,7 +242,7 @@ left_fewer names more rs lost = by_left (leave (Some names) None rs) refl
   where
     by_left : (o : Option Names) → leave (Some names) None rs ≡ o → o ≡ None
     by_left None e = refl
-    by_left (Some rest) e = absurd (let apart : Some (rest ++ more) ≡ None = sym (stays_from more rest names None rs e).leaves ∙ lost in cc)
+    by_left (Some rest) e = let more = leaves_more names more rest rs e in cc
 
 pub lost_fewer : (names more : Names) (ones twos : List Feature) → IsLost (names ++ more) ones twos → IsLost names ones twos
 lost_fewer names more ones twos lost = grind (arith, left_fewer)
@@ -310,7 +268,7 @@ pub record Away (ones twos : List Interval) : Type 0 where
 
 pub none_has : (name : List ℕ) (rs : List Interval) → AllByRecursion (λ r. bytes_eq r.chrom name ≡ false) rs → has_records name rs ≡ false
 none_has name [] h = refl
-none_has name (r ∷ rs) h = ap (λ b. b || has_records name rs) h.0 ∙ none_has name rs h.1
+none_has name (r ∷ rs) h = grind (arith, (none_has name rs h.1))
 
 pub has_none : (name : List ℕ) (rs : List Interval) → has_records name rs ≡ false → AllByRecursion (λ r. bytes_eq r.chrom name ≡ false) rs
 has_none name [] e = tt
@@ -332,24 +290,17 @@ last_behind [] q qs = refl
 last_behind (r ∷ []) q qs = refl
 last_behind (r ∷ s ∷ ss) q qs = last_behind (s ∷ ss) q qs
 
--- the records of a chromosome that has none in the other part
-pub spans_first : (name : List ℕ) (ones twos : List Interval) → has_records name twos ≡ false → spans_on name (ones ++ twos) ≡ spans_on name ones
-spans_first name ones twos e = grind (arith, (spans_on-append name ones twos), (spans_on-none name twos e), (append-nil (spans_on name ones)))
-
-pub spans_second : (name : List ℕ) (ones twos : List Interval) → has_records name ones ≡ false → spans_on name (ones ++ twos) ≡ spans_on name twos
-spans_second name ones twos e = spans_on-append name ones twos ∙ ap (λ l. l ++ spans_on name twos) (spans_on-none name ones e)
-
 pub has_append : (name : List ℕ) (xs ys : List Interval) → has_records name (xs ++ ys) ≡ (has_records name xs || has_records name ys)
 has_append name [] ys = refl
-has_append name (x ∷ xs) ys = ap (λ b. bytes_eq x.chrom name || b) (has_append name xs ys) ∙ (grind arith)
+has_append name (x ∷ xs) ys = grind (arith, (has_append name xs ys))
 
 module _ (order : Order) (total : IsTotal order) where
-  earlier_away : (ones twos : List Feature) → ArePlaced order (intervals_of ones) → Earlier order total ones twos → AllByRecursion (λ r. AllByRecursion (λ s. bytes_eq r.chrom s.chrom ≡ false) (intervals_of twos)) (intervals_of ones)
-  earlier_away [] twos placed early = tt
-  earlier_away (r ∷ ones) twos placed early = grind (arith, (earlier_away ones twos placed.2 early.1), all_map, all_so, rules)
+  pub names_apart : (ones twos : List Feature) → AllByRecursion (λ r. IsTrue (order.knows r.chrom)) ones → Earlier order total ones twos → AllByRecursion (λ a. AllByRecursion (λ b. bytes_eq a.chrom b.chrom ≡ false) twos) ones
+  names_apart [] twos known early = tt
+  names_apart (a ∷ ones) twos known early = (all_so _ _ twos (λ b less. search rules) early.0, names_apart ones twos known.1 early.1)
 
   pub records_away : (ones twos : List Feature) → ArePlaced order (intervals_of ones) → Earlier order total ones twos → Away (intervals_of ones) (intervals_of twos)
-  records_away ones twos placed early = away_by (intervals_of ones) (intervals_of twos) (earlier_away ones twos placed early)
+  records_away ones twos placed early = away_by (intervals_of ones) (intervals_of twos) (grind (arith, all_map, all_so, (names_apart ones twos (all_unmap _ interval_of ones (placed_known order (intervals_of ones) placed)) early)))
 
   first_before : (r : Feature) (twos : List Feature) → AllByRecursion (λ s. order.compare r.chrom s.chrom ≡ Less) twos → IsPlacedBefore order (interval_of r) (intervals_of twos)
   first_before r [] h = tt
@@ -359,10 +310,6 @@ module _ (order : Order) (total : IsTotal order) where
   placed_both [] twos one two early = two
   placed_both (r ∷ []) twos one two early = (one.0, first_before r twos early.0, two)
   placed_both (r ∷ s ∷ ones) twos one two early = (one.0, one.1, placed_both (s ∷ ones) twos one.2 two early.1)
-
-  pub names_apart : (ones twos : List Feature) → AllByRecursion (λ r. IsTrue (order.knows r.chrom)) ones → Earlier order total ones twos → AllByRecursion (λ a. AllByRecursion (λ b. bytes_eq a.chrom b.chrom ≡ false) twos) ones
-  names_apart [] twos known early = tt
-  names_apart (a ∷ ones) twos known early = (all_so _ _ twos (λ b less. search rules) early.0, names_apart ones twos known.1 early.1)
 
   pub names_behind : (ones twos : List Feature) → AllByRecursion (λ r. IsTrue (order.knows r.chrom)) ones → Earlier order total ones twos → AllByRecursion (λ a. AllByRecursion (λ b. bytes_eq a.chrom b.chrom ≡ false) ones) twos
   names_behind ones twos known early =

@@ -1,20 +1,20 @@
 -- Merged runs of records of two parts, and those of each strand.
-use Rattle.bt_lines.proofs.Std.{arith, ◌≡◌, ℕ, Bool, false, List, [], ◌∷◌, ◌++◌, map, filter, append-nil, refl, sym, ap, ap₂, ◌∙◌, subst, true, ◌&&◌, not, cond, append_assoc, bytes_eq, flat_map, AllByRecursion, list_any, take_while, flat_map-append, map-append, filter-append, take_while-cons, and_left}
-use Rattle.bt_bed.specs.model.Feature.{Feature, interval_of, intervals_of, Interval, last_of, placed_on, spans_on}
+use Rattle.bt_lines.proofs.Std.{arith, ◌≡◌, ℕ, Bool, false, List, [], ◌∷◌, ◌++◌, filter, append-nil, refl, sym, ap, ap₂, ◌∙◌, subst, true, ◌&&◌, not, cond, append_assoc, bytes_eq, AllByRecursion, list_any, take_while, flat_map-append, map-append, filter-append, take_while-cons, and_left}
+use Rattle.bt_bed.specs.model.Feature.{Feature, interval_of, intervals_of, Interval, last_of}
 use Rattle.bt_bed.specs.calls.Orders.{AreNonEmpty, ArePlaced, IsTotal}
 use Rattle.bt_bed.specs.model.BedLine.{interval_lines, interval_line}
 use Rattle.bt_bed.specs.model.Sorted.{has_records}
 use Rattle.bt_bed.specs.model.Order.{Order}
 use Rattle.bt_bed.proofs.lemmas.order.OrderLemmas.{placed_contiguous}
-use Rattle.bt_runs.specs.model.Merged.{counted, is_counted, chromosomes, merged, runs_of, runs_on, is_closed, merged_runs, passed_by, ordered_runs, StrandRun, begun_by, is_in, listed_behind, places_of, runs_of_strand, settled_strand_runs, strand_runs}
+use Rattle.bt_runs.specs.model.Merged.{counted, is_counted, chromosomes, merged, is_closed, merged_runs, passed_by, StrandRun, begun_by, is_in, listed_behind, places_of, runs_of_strand, settled_strand_runs, strand_runs}
 use Rattle.bt_runs.specs.calls.MergedRuns.{AreMergeable, settled_runs, kept_strand_runs}
 use Rattle.bt_runs.specs.declared.merge.merge_strand.MergeStrand.{MergeStrand}
-use Rattle.bt_runs.proofs.lemmas.order.FileOrder.{among_chromosomes, without_absent, ordered_come}
+use Rattle.bt_runs.proofs.lemmas.order.FileOrder.{among_chromosomes, without_absent, ordered_come, spans_on-append, spans_on-none}
 use Rattle.bt_runs.proofs.lemmas.definitions.Standing.{placed_elsewhere, counted-append, passed_elsewhere}
 use Rattle.bt_runs.proofs.lemmas.merge.SettledRuns.{runs_begin}
-use Rattle.bt_laws.proofs.lemmas.parts.PartBed.{Earlier}
+use Rattle.bt_laws.proofs.lemmas.parts.PartLines.{Earlier}
 use Rattle.bt_runs.proofs.lemmas.Lists.{all_filter, all_map, all_so, flat_map_same, all_unmap, all_any, all_both, all_flat_map, all_swapped, filter_none, filter_same}
-use Rattle.bt_laws.proofs.lemmas.parts.PartGenomes.{Away, has_none, last_behind, last_is, none_has, placed_both, records_away, spans_first, spans_second}
+use Rattle.bt_laws.proofs.lemmas.parts.PartGenomes.{Away, has_none, last_behind, last_is, none_has, placed_both, records_away}
 use Rattle.bt_laws.proofs.lemmas.parts.PartReports.{Splits}
 use Rattle.bt_tool.specs.model.Written.{pooled_written, strands_written}
 use Rattle.bt_bed.specs.declared.record.strand.Strand.{Strand}
@@ -39,20 +39,12 @@ chromosomes_both (r ∷ xs) ys h = grind (arith, (chromosomes_both xs ys h.1), f
 -- what holds of each record's chromosome holds of each name
 pub named_all : (P : List ℕ → Type 0) (xs : List Interval) → AllByRecursion (λ r. P r.chrom) xs → AllByRecursion P (chromosomes xs)
 named_all P [] h = tt
-named_all P (r ∷ xs) h = (h.0, all_filter P _ (chromosomes xs) (named_all P xs h.1))
+named_all P (r ∷ xs) h = grind (arith, all_filter, (named_all P xs h.1))
 
 module _ (gap : ℕ) where
-  runs_same : (name : List ℕ) (xs ys : List Interval) → spans_on name xs ≡ spans_on name ys → runs_on name gap xs ≡ runs_on name gap ys
-  runs_same name xs ys e = ap (λ spans. map (placed_on name) (runs_of gap spans)) e
-
   pub merged_both : (xs ys : List Interval) → Away xs ys → merged (chromosomes (xs ++ ys)) gap (xs ++ ys) ≡ merged (chromosomes xs) gap xs ++ merged (chromosomes ys) gap ys
   unfolding merged
-  merged_both xs ys away =
-      ap (flat_map (λ name. runs_on name gap (xs ++ ys))) (chromosomes_both xs ys away.first)
-      ∙ flat_map-append (λ name. runs_on name gap (xs ++ ys)) (chromosomes xs) (chromosomes ys)
-      ∙ ap₂ (λ a b. a ++ b)
-      (flat_map_same (λ name. runs_on name gap (xs ++ ys)) (λ name. runs_on name gap xs) (chromosomes xs) (all_so _ _ (chromosomes xs) (λ n e. runs_same n (xs ++ ys) xs (spans_first n xs ys e)) (named_all (λ n. has_records n ys ≡ false) xs away.first)))
-      (flat_map_same (λ name. runs_on name gap (xs ++ ys)) (λ name. runs_on name gap ys) (chromosomes ys) (all_so _ _ (chromosomes ys) (λ n e. runs_same n (xs ++ ys) ys (spans_second n xs ys e)) (named_all (λ n. has_records n xs ≡ false) ys away.second)))
+  merged_both xs ys away = grind (arith, (chromosomes_both xs ys away.first), flat_map-append, flat_map_same, all_so, spans_on-append, spans_on-none, append-nil, (named_all (λ n. has_records n ys ≡ false) xs away.first), (named_all (λ n. has_records n xs ≡ false) ys away.second))
 
   -- runs on other chromosomes are passed
   pub passed_all : (last : Interval) (names : List (List ℕ)) (xs : List Interval) → AllByRecursion (λ n. bytes_eq n last.chrom ≡ false) names → filter (is_closed gap last) (merged names gap xs) ≡ merged names gap xs
@@ -70,12 +62,9 @@ module _ (gap : ℕ) where
         passed_all last (chromosomes (counted strand ones)) (counted strand ones)
         (named_all (λ n. bytes_eq n last.chrom ≡ false) (counted strand ones) (has_none last.chrom (counted strand ones) (fewer (λ r. is_counted strand r.strand) last.chrom ones e)))
 
-    settled_is : (records : List Feature) → settled_runs gap strand records ≡ passed_by gap (merged_runs gap strand records) (last_of (intervals_of records))
-    unfolding settled_runs
-    settled_is records = refl
-
     begins : (ones : List Feature) → AreMergeable ones → (rest : List Interval) × (merged_runs gap strand ones ≡ passed_by gap (merged_runs gap strand ones) (last_of (intervals_of ones)) ++ rest)
-    begins ones taken = grind (arith, (runs_begin gap strand ones [] (subst AreMergeable (sym (append-nil ones)) taken)), (append-nil ones), (settled_is ones))
+    unfolding settled_runs
+    begins ones taken = grind (arith, (runs_begin gap strand ones [] (subst AreMergeable (sym (append-nil ones)) taken)), (append-nil ones))
 
     begin_by : (ones twos : List Feature) → AreMergeable ones → Away (intervals_of ones) (intervals_of twos)
         → (rest : List ℕ) × (interval_lines (merged_runs gap strand ones) ++ interval_lines (passed_by gap (merged_runs gap strand twos) (last_of (intervals_of twos)))
@@ -85,9 +74,6 @@ module _ (gap : ℕ) where
 
     module _ (order : Order) (total : IsTotal order) (ones twos : List Feature) (one : ArePlaced order (intervals_of ones)) (two : ArePlaced order (intervals_of twos))
         (full : AreNonEmpty (intervals_of ones)) (early : Earlier order total ones twos) where
-      come : (records : List Feature) → ArePlaced order (intervals_of records) → ordered_runs order gap strand records ≡ merged_runs gap strand records
-      come records placed = ordered_come order gap strand records total placed
-
       both_placed : ArePlaced order (intervals_of (ones ++ twos))
       both_placed = placed_both order total ones twos one two early
 
@@ -95,7 +81,7 @@ module _ (gap : ℕ) where
       away = records_away order total ones twos one early
 
       pub pooled_split : Splits (pooled_written order gap strand) (pooled_written order gap strand) (pooled_written order gap strand) ones twos
-      pooled_split = grind (arith, (begin_by ones twos (record { contiguous = placed_contiguous order (intervals_of ones) total one; full = full }) away), come, both_placed, runs_both, away, flat_map-append)
+      pooled_split = grind (arith, (begin_by ones twos (record { contiguous = placed_contiguous order (intervals_of ones) total one; full = full }) away), ordered_come, both_placed, runs_both, away, flat_map-append)
 
 -- ---- runs of each strand
 
@@ -109,7 +95,7 @@ not_in item r e = grind arith
 -- what is listed is among the runs of the strands
 pub listed_all : (P : StrandRun → Type 0) (runs : Strand → List StrandRun) (before rs : List Feature) → ((strand : Strand) → AllByRecursion P (runs strand)) → AllByRecursion P (listed_behind runs before rs)
 listed_all P runs before [] h = tt
-listed_all P runs before (r ∷ rs) h = all_both P (begun_by (runs r.strand) before r) (listed_behind runs (before ++ r ∷ []) rs) (all_filter P _ (runs r.strand) (h r.strand)) (listed_all P runs (before ++ r ∷ []) rs h)
+listed_all P runs before (r ∷ rs) h = grind (arith, all_both, all_filter, (listed_all P runs (before ++ r ∷ []) rs h))
 
 module _ (gap : ℕ) where
   runs_elsewhere : (name : List ℕ) (names : List (List ℕ)) (rs : List Interval) → AllByRecursion (λ n. bytes_eq n name ≡ false) names → AllByRecursion (λ run. bytes_eq run.chrom name ≡ false) (merged names gap rs)
@@ -121,9 +107,7 @@ module _ (gap : ℕ) where
   items_elsewhere name rs strand e =
       all_map (Elsewhere name) (λ run. record { strand = strand; run = run }) (merged_runs gap (One strand) rs)
       (runs_elsewhere name (chromosomes (counted (One strand) rs)) (counted (One strand) rs)
-      (named_all (λ n. bytes_eq n name ≡ false) (counted (One strand) rs)
-      (all_map (λ r. bytes_eq r.chrom name ≡ false) interval_of (filter (λ r. is_counted (One strand) r.strand) rs)
-      (all_filter (λ r. bytes_eq r.chrom name ≡ false) (λ r. is_counted (One strand) r.strand) rs (all_unmap (λ r. bytes_eq r.chrom name ≡ false) interval_of rs (has_none name (intervals_of rs) e))))))
+      (named_all (λ n. bytes_eq n name ≡ false) (counted (One strand) rs) (has_none name (counted (One strand) rs) (fewer (λ r. is_counted (One strand) r.strand) name rs e))))
 
   module _ (ones twos : List Feature) (away : Away (intervals_of ones) (intervals_of twos)) where
     listed_first : (before rs : List Feature) → AllByRecursion (λ r. has_records r.chrom (intervals_of twos) ≡ false) rs → listed_behind (runs_of_strand gap (ones ++ twos)) before rs ≡ listed_behind (runs_of_strand gap ones) before rs
@@ -182,13 +166,8 @@ module _ (gap : ℕ) where
 
   strand_begin : (ones twos : List Feature) → Away (intervals_of ones) (intervals_of twos)
       → (rest : List ℕ) × (interval_lines (places_of (strand_runs gap ones)) ++ interval_lines (places_of (settled_strand_runs gap twos)) ≡ interval_lines (places_of (settled_strand_runs gap (ones ++ twos))) ++ rest)
-  strand_begin ones [] _ = (
-    interval_lines (places_of (kept_strand_runs gap ones)),
-    ap (λ l. interval_lines (places_of (strand_runs gap ones)) ++ l) nothing_settled ∙ append-nil (interval_lines (places_of (strand_runs gap ones)))
-        ∙ ap (λ items. interval_lines (places_of items)) (divide gap ones) ∙ places_both (settled_strand_runs gap ones) (kept_strand_runs gap ones)
-        ∙ ap (λ rs. interval_lines (places_of (settled_strand_runs gap rs)) ++ interval_lines (places_of (kept_strand_runs gap ones))) (sym (append-nil ones)),
-  )
-  strand_begin ones (s ∷ twos) away = ([], sym (append-nil _ ∙ ap (λ items. interval_lines (places_of items)) (settled_both ones s twos away) ∙ places_both (strand_runs gap ones) (settled_strand_runs gap (s ∷ twos))))
+  strand_begin ones [] _ = (interval_lines (places_of (kept_strand_runs gap ones)), grind (arith, nothing_settled, append-nil, (divide gap ones), (places_both (settled_strand_runs gap ones) (kept_strand_runs gap ones))))
+  strand_begin ones (s ∷ twos) away = grind (arith, append-nil, settled_both, places_both)
 
   pub strands_split : (ones twos : List Feature) → Away (intervals_of ones) (intervals_of twos) → Splits (strands_written gap) (strands_written gap) (strands_written gap) ones twos
   strands_split ones twos away = grind (arith, (strand_runs_both ones twos away), (places_both (strand_runs gap ones) (strand_runs gap twos)), (strand_begin ones twos away))

@@ -1,5 +1,5 @@
 -- The reports on two parts and on the whole, and from them those on any number of parts.
-use Rattle.bt_lines.proofs.Std.{rules, arith, ◌≡◌, ℕ, false, List, [], ◌∷◌, ◌++◌, map, append-nil, append_assoc, Option, Some, None, sym, ap, ◌∙◌, subst, is_none, flat_map-append}
+use Rattle.bt_lines.proofs.Std.{rules, arith, ◌≡◌, ℕ, false, List, [], ◌∷◌, ◌++◌, map, append-nil, append_assoc, Option, Some, None, is_none, flat_map-append}
 use Rattle.bt_lines.specs.model.Fault.{FaultValue}
 use Rattle.bt_bed.specs.model.Good.{Good, items_in}
 use Rattle.bt_laws.specs.Parts.{AddUp, StopWithin, prefixes_begin, outputs_to_fault, unless_fault}
@@ -18,15 +18,6 @@ Stops one two whole = (rest : List ℕ) × (one.output ++ unless_fault one.fault
 -- both
 abbrev pub Joins : Report → Report → Report → Type 0
 Joins one two whole = Adds one two whole × Stops one two whole
-
-pub add_none : (whole : Report) → whole.fault ≡ None → whole.output ≡ [] → AddUp [] whole
-add_none whole fault output = record { faultless = (λ e. tt, λ all. fault); output = λ e. output }
-
-pub stop_none : (whole : Report) → whole.output ≡ [] → StopWithin [] whole
-stop_none whole output = ([], sym (append-nil whole.output ∙ output))
-
-pub add_one : (part : Report) → AddUp (part ∷ []) part
-add_one part = record { faultless = (λ e. (e, tt), λ all. all.0); output = λ e. sym (append-nil part.output) }
 
 pub stop_one : (part : Report) → StopWithin (part ∷ []) part
 stop_one part = grind arith
@@ -71,27 +62,20 @@ module _ {T : Type 0} (join : List T → T) (report : T → Report) (Fits : List
     (less : (t : T) (ts : List T) → Fits (t ∷ ts) → Fits ts) where
   pub parts_add : ((t u : T) (ts : List T) → Fits (t ∷ u ∷ ts) → Adds (report t) (report (join (u ∷ ts))) (report (join (t ∷ u ∷ ts))))
       → (ts : List T) → Fits ts → AddUp (map report ts) (report (join ts))
-  parts_add two [] fits = grind (arith, add_none)
-  parts_add two (t ∷ []) fits = subst (λ r. AddUp (report t ∷ []) r) (sym (one t)) (add_one (report t))
+  parts_add two [] fits = grind arith
+  parts_add two (t ∷ []) fits = grind (arith, append-nil)
   parts_add two (t ∷ u ∷ ts) fits = grind (arith, (parts_add two (u ∷ ts) (less t (u ∷ ts) fits)))
 
   pub parts_stop : ((t u : T) (ts : List T) → Fits (t ∷ u ∷ ts) → Stops (report t) (report (join (u ∷ ts))) (report (join (t ∷ u ∷ ts))))
       → (ts : List T) → Fits ts → StopWithin (map report ts) (report (join ts))
-  parts_stop two [] fits = stop_none (report (join [])) (ap (λ (r : Report). r.output) empty)
-  parts_stop two (t ∷ []) fits = subst (λ r. StopWithin (report t ∷ []) r) (sym (one t)) (stop_one (report t))
+  parts_stop two [] fits = grind arith
+  parts_stop two (t ∷ []) fits = grind arith
   parts_stop two (t ∷ u ∷ ts) fits =
       stop_more (report t) (map report (u ∷ ts)) (report (join (u ∷ ts))) (report (join (t ∷ u ∷ ts))) (parts_stop two (u ∷ ts) (less t (u ∷ ts) fits)) (two t u ts fits)
 
   pub parts_both : ((t u : T) (ts : List T) → Fits (t ∷ u ∷ ts) → Joins (report t) (report (join (u ∷ ts))) (report (join (t ∷ u ∷ ts))))
       → (ts : List T) → Fits ts → AddUp (map report ts) (report (join ts)) × StopWithin (map report ts) (report (join ts))
   parts_both two ts fits = grind (arith, parts_add, parts_stop)
-
--- commands that write the same of these members
-pub splits_as : {A : Type 0} {one two whole one_too two_too whole_too : Written A} {ones twos : List A}
-    → one.whole ones ≡ one_too.whole ones → one.settled ones ≡ one_too.settled ones → two.whole twos ≡ two_too.whole twos → two.settled twos ≡ two_too.settled twos
-    → whole.whole (ones ++ twos) ≡ whole_too.whole (ones ++ twos) → whole.settled ones ≡ whole_too.settled ones → whole.settled (ones ++ twos) ≡ whole_too.settled (ones ++ twos)
-    → Splits one_too two_too whole_too ones twos → Splits one two whole ones twos
-splits_as a b c d e f g splits = grind arith
 
 -- a prefix of what one part writes
 pub prefixes_begin_whole : prefixes_begin

@@ -1,5 +1,5 @@
 -- What is good of two concatenated FASTA texts.
-use Rattle.bt_lines.proofs.Std.{common_steps, ◌≡◌, ℕ, Bool, true, false, cond, List, [], ◌∷◌, ◌++◌, map, append-nil, append_assoc, Option, Some, None, Ok, Err, refl, sym, ap, ap₂, ◌∙◌, arith, IsTrue, ⊤, flat_map, AllByRecursion, map-append, is_none, option_map}
+use Rattle.bt_lines.proofs.Std.{common_steps, ◌≡◌, ℕ, Bool, true, false, cond, List, [], ◌∷◌, ◌++◌, map, append-nil, append_assoc, Option, Some, None, Ok, Err, refl, sym, ap, ap₂, arith, IsTrue, ⊤, flat_map, AllByRecursion, map-append, is_none, option_map}
 use Rattle.bt_lines.specs.model.Fault.{FaultValue}
 use Rattle.bt_lines.specs.model.Lines.{TextLine, lines_from, text_lines}
 use Rattle.bt_lines.specs.declared.fault.Input.{Input}
@@ -8,13 +8,12 @@ use Rattle.bt_lines.proofs.lemmas.reader.lines.TextLemmas.{lines_from-fed, lines
 use Rattle.bt_bed.specs.model.Good.{Format, Good, good, good_from, items_in, line_says as record_says, locus_at, block_format, bed_format}
 use Rattle.bt_seq.specs.model.Masked.{is_unnamed, names_of_sequences, Reached, SequenceLine, header_behind, is_sequence_header, line_behind, line_says, may_stand, sequence_format}
 use Rattle.bt_laws.specs.Parts.{begins_sequence, name_on, sequence_names, StandsBefore, said_records}
-use Rattle.bt_laws.proofs.lemmas.parts.PartLines.{like_from, alike_lines, lines_join, IsLike, put_on, reached, go_from}
+use Rattle.bt_laws.proofs.lemmas.parts.PartLines.{like_from, alike_lines, lines_join, IsLike, put_on, reached, go_from, alike_records, records_on, items_all}
 use Rattle.bt_bed.specs.model.Feature.{Feature}
 use Rattle.bt_bed.specs.model.BedLine.{record_of}
 use Rattle.bt_bed.specs.model.Sorted.{Locus, block_sorting, Sorting}
 use Rattle.bt_seq.proofs.lemmas.definitions.KnowsLemmas.{is_last}
 use Rattle.bt_seq.proofs.lemmas.Sam.{last_from}
-use Rattle.bt_laws.proofs.lemmas.parts.PartBed.{alike_records, records_on, items_all}
 use Rattle.bt_runs.proofs.lemmas.Lists.{all_so}
 
 -- ---- sequences
@@ -55,7 +54,7 @@ module _ (full : Bool) (input : Input) where
 
   moved_from : (names : List (List ℕ)) (s : Reached) (ls : List TextLine) → is_unnamed s.names ≡ false → AreMoved names (good_from Fasta input (reached_after names s) ls) (good_from Fasta input s ls)
   unfolding good_from
-  moved_from names s [] named = record { items = refl; none = refl; same = refl; named = tt }
+  moved_from names s [] named = grind arith
   moved_from names s (l ∷ ls) named =
       grind (
         arith,
@@ -71,7 +70,7 @@ module _ (full : Bool) (input : Input) where
   -- from a header on
   moved_header : (r : Reached) (ls : List TextLine) → BeginsAtHeader ls → AreMoved r.names (good_from Fasta input r ls) (good_from Fasta input Fasta.begin ls)
   unfolding good_from
-  moved_header r [] h = record { items = refl; none = refl; same = refl; named = tt }
+  moved_header r [] h = grind arith
   moved_header r (l ∷ ls) h = grind (arith, (moved_from r.names (Fasta.after Fasta.begin (header_behind full Fasta.begin l)) ls refl))
 
   -- if a line is at fault, no line before it has a sequence
@@ -90,30 +89,25 @@ module _ (full : Bool) (input : Input) where
   begin_names [] = refl
   begin_names (x ∷ xs) = reached_names Fasta.begin x xs
 
-  -- the names after lines without a fault
-  grown_from : (s : Reached) (ls : List TextLine) → (good_from Fasta input s ls).fault ≡ None
-      → (reached Fasta s (items_in (good_from Fasta input s ls))).names ≡ s.names ++ flat_map (λ line. name_on full line.text) ls
-  unfolding good_from
-  grown_from s [] none = sym (append-nil s.names)
-  grown_from s (l ∷ ls) none = grind (arith, append_assoc, (λ (now : Reached). grown_from now ls))
-
-  -- without a fault the names are those of the headers
-  pub names_grown : (text : List ℕ) → (good Fasta input (text_lines text)).fault ≡ None → names_of_sequences (items_in (good Fasta input (text_lines text))) ≡ sequence_names full text
-  names_grown text none = sym (begin_names (items_in (good Fasta input (text_lines text)))) ∙ grown_from Fasta.begin (text_lines text) none
-
   -- each line's names begin those of all
   abbrev pub Begins : List (List ℕ) → SequenceLine → Type 0
   Begins names line = (more : List (List ℕ)) × (names ≡ line.names ++ more)
 
-  record Grows (s : Reached) (xs : List SequenceLine) : Type 0 where
+  -- the names after lines: without a fault each header has given one
+  record Grows (s : Reached) (g : Good SequenceLine) (named : List (List ℕ)) : Type 0 where
     more : List (List ℕ)
-    is : (reached Fasta s xs).names ≡ s.names ++ more
-    all : AllByRecursion (Begins (reached Fasta s xs).names) xs
+    is : (reached Fasta s (items_in g)).names ≡ s.names ++ more
+    said : g.fault ≡ None → more ≡ named
+    all : AllByRecursion (Begins (reached Fasta s (items_in g)).names) (items_in g)
 
-  grows_from : (s : Reached) (ls : List TextLine) → Grows s (items_in (good_from Fasta input s ls))
+  grows_from : (s : Reached) (ls : List TextLine) → Grows s (good_from Fasta input s ls) (flat_map (λ line. name_on full line.text) ls)
   unfolding good_from
-  grows_from s [] = record { more = []; is = sym (append-nil s.names); all = tt }
+  grows_from s [] = grind (arith, append-nil)
   grows_from s (l ∷ ls) = grind (arith, append-nil, append_assoc, (λ (now : Reached). grows_from now ls))
+
+  -- without a fault the names are those of the headers
+  pub names_grown : (text : List ℕ) → (good Fasta input (text_lines text)).fault ≡ None → names_of_sequences (items_in (good Fasta input (text_lines text))) ≡ sequence_names full text
+  names_grown text none = grind (arith, (begin_names (items_in (good Fasta input (text_lines text)))), (grows_from Fasta.begin (text_lines text)))
 
   pub names_begin : (ls : List TextLine) → AllByRecursion (Begins (names_of_sequences (items_in (good Fasta input ls)))) (items_in (good Fasta input ls))
   names_begin ls = grind (arith, (begin_names (items_in (good Fasta input ls))), (grows_from Fasta.begin ls))
@@ -129,8 +123,8 @@ module _ (full : Bool) (input : Input) where
   last_names (x ∷ z ∷ zs) y ys = last_names (z ∷ zs) y ys
 
   pub names_both : (xs ys : List SequenceLine) → names_of_sequences (xs ++ map (line_after (names_of_sequences xs)) ys) ≡ names_of_sequences xs ++ names_of_sequences ys
-  names_both xs [] = ap names_of_sequences (append-nil xs) ∙ sym (append-nil (names_of_sequences xs))
-  names_both xs (y ∷ ys) = last_names xs (line_after (names_of_sequences xs) y) (map (line_after (names_of_sequences xs)) ys) ∙ names_moved (names_of_sequences xs) y ys
+  names_both xs [] = grind (arith, append-nil)
+  names_both xs (y ∷ ys) = grind (arith, last_names, names_moved)
 
   -- ---- two texts
 
@@ -223,9 +217,6 @@ module _ (input : Input) where
     abbrev Last : Option Locus
     Last = reached block_format None (items_in First-good)
 
-    whole_is : Whole-good ≡ put_on First-good.fault First-good (good_from block_format input Last Lines-behind)
-    whole_is = grind (arith, (lines_join 1 one two ends), (go_from block_format input None (text_lines one) Lines-behind))
-
     like_two : IsLike (good_from block_format input None Lines-behind) Second-good
     like_two = like_from block_format input None Lines-behind (text_lines two) (λ state l m t d. ap (record_says block_sorting state) t) (alike_lines (lines_join 1 one two ends).0 1 two)
 
@@ -235,15 +226,15 @@ module _ (input : Input) where
 
     -- if those of the second text begin on another chromosome
     pub fresh_joint : First-good.fault ≡ None → BeginsElsewhere (last_from None (items_in First-good)) (said_records two) → AreJoint
-    fresh_joint none h = grind (arith, like_two, whole_is, fresh_from, reached_last, alike_records, alike_lines, map-append)
+    fresh_joint none h = grind (arith, like_two, (go_from block_format input None (text_lines one) Lines-behind), fresh_from, reached_last, alike_records, alike_lines, map-append)
 
     -- or if both texts have no fault
     pub calm_joint : Whole-good.fault ≡ None → (First-good.fault ≡ None) × (Second-good.fault ≡ None) × (items_in Whole-good ≡ items_in First-good ++ items_in Second-good)
-    calm_joint none = grind (arith, whole_is, calm_from, like_two, map-append)
+    calm_joint none = grind (arith, (go_from block_format input None (text_lines one) Lines-behind), calm_from, like_two, map-append)
 
     -- a fault of the first text is that of both
     pub faulty_same : (fault : FaultValue) → First-good.fault ≡ Some fault → Whole-good ≡ First-good
-    faulty_same fault e = whole_is ∙ ap (λ f. put_on f First-good (good_from block_format input Last Lines-behind)) e
+    faulty_same fault e = grind (arith, (go_from block_format input None (text_lines one) Lines-behind))
 
     front_by : (fault : Option FaultValue) (g h : Good Feature) → (more : List Feature) × (items_in (put_on fault g h) ≡ items_in g ++ more)
     front_by None g h = (items_in h, map-append (λ m. m.item) g.members h.members)
@@ -251,4 +242,4 @@ module _ (input : Input) where
 
     -- the records of the first text come first
     pub first_front : (more : List Feature) × (items_in Whole-good ≡ items_in First-good ++ more)
-    first_front = grind (arith, (front_by First-good.fault First-good (good_from block_format input Last Lines-behind)), whole_is)
+    first_front = grind (arith, (front_by First-good.fault First-good (good_from block_format input Last Lines-behind)), (go_from block_format input None (text_lines one) Lines-behind))

@@ -1,5 +1,5 @@
 -- What intersect and subtract write of inputs of two parts.
-use Rattle.bt_lines.proofs.Std.{common_steps, arith, ◌≡◌, ℕ, Bool, true, false, ◌&&◌, ◌||◌, cond, List, [], ◌∷◌, ◌++◌, append-nil, append_assoc, Option, Some, None, refl, sym, ap, ap₂, ◌∙◌, IsTrue, bytes_eq, flat_map, is_none, AllByRecursion, list_all, list_any, take_while, flat_map-append, filter-append, take_while-cons}
+use Rattle.bt_lines.proofs.Std.{common_steps, arith, ◌≡◌, ℕ, Bool, true, false, ◌||◌, cond, List, [], ◌∷◌, ◌++◌, append-nil, append_assoc, Option, Some, None, inl, inr, ◌⊎◌, refl, sym, ap, ap₂, ◌∙◌, IsTrue, bytes_eq, flat_map, AllByRecursion, list_all, list_any, take_while, flat_map-append, filter-append, take_while-cons}
 use Rattle.std.specs.declared.cmp.Ordering.TheVariants.{Less}
 use Rattle.bt_sweep.proofs.lemmas.definitions.HitLemmas.{apart_misses}
 use Rattle.bt_lines.specs.model.Fault.{FaultValue}
@@ -7,16 +7,16 @@ use Rattle.bt_bed.specs.model.Feature.{Feature}
 use Rattle.bt_bed.specs.model.Meeting.{Rule, join_report, written}
 use Rattle.bt_bed.specs.model.Order.{Order}
 use Rattle.bt_bed.specs.calls.Orders.{IsTotal}
-use Rattle.bt_bed.proofs.lemmas.Definitions.{all_written, met_fault_all, met_lines, written_past}
-use Rattle.bt_sweep.specs.model.Hits.{decided, decides, hits}
+use Rattle.bt_bed.proofs.lemmas.Definitions.{met_lines, written_past}
+use Rattle.bt_sweep.specs.model.Hits.{decided, decides}
 use Rattle.bt_sweep.specs.model.Lines.{intersect, lines_for, sweep_rule}
 use Rattle.bt_sweep.specs.declared.hits.hit_rule.HitRule.{HitRule}
 use Rattle.bt_sweep.specs.declared.output.shape.Shape.{Shape}
 use Rattle.bt_laws.specs.Parts.{unless_fault}
 use Rattle.bt_tool.specs.model.Written.{Report, met_report}
-use Rattle.bt_laws.proofs.lemmas.parts.PartBed.{Earlier}
+use Rattle.bt_laws.proofs.lemmas.parts.PartLines.{Earlier}
 use Rattle.bt_runs.proofs.lemmas.Lists.{all_any, all_so, all_swapped, all_zip, filter_none, flat_map_same, none_from}
-use Rattle.bt_laws.proofs.lemmas.parts.PartReports.{Adds, Stops, Contiguous, Joins}
+use Rattle.bt_laws.proofs.lemmas.parts.PartReports.{Stops, Contiguous, Joins}
 
 -- ---- lists up to the first that fails a test
 
@@ -32,7 +32,7 @@ take_same t u [] h = refl
 take_same t u (x ∷ xs) h = grind (arith, (take_while-cons t x xs), cond, (take_same t u xs h.1), (take_while-cons u x xs))
 
 front_by : {A : Type 0} (l : A → List ℕ) (x : A) (xs kept : List A) (b : Bool) → (rest : List ℕ) × (flat_map l xs ≡ flat_map l kept ++ rest) → (rest : List ℕ) × (flat_map l (x ∷ xs) ≡ flat_map l (cond b (x ∷ kept) []) ++ rest)
-front_by l x xs kept true more = (more.0, ap (λ r. l x ++ r) more.1 ∙ sym (append_assoc (l x) (flat_map l kept) more.0))
+front_by l x xs kept true more = grind (arith, append_assoc)
 front_by l x xs kept false more = (flat_map l (x ∷ xs), refl)
 
 pub take_front : {A : Type 0} (t : A → Bool) (l : A → List ℕ) (xs : List A) → (rest : List ℕ) × (flat_map l xs ≡ flat_map l (take_while t xs) ++ rest)
@@ -41,36 +41,36 @@ take_front t l (x ∷ xs) = grind (arith, (front_by l x xs (take_while t xs) (t 
 
 pub all_true : {A : Type 0} (t : A → Bool) (xs : List A) → AllByRecursion (λ x. t x ≡ true) xs → list_all t xs ≡ true
 all_true t [] h = refl
-all_true t (x ∷ xs) h = ap (λ b. b && list_all t xs) h.0 ∙ all_true t xs h.1
+all_true t (x ∷ xs) h = grind (arith, (all_true t xs h.1))
 
 pub any_behind : {A : Type 0} (t : A → Bool) (xs ys : List A) → AllByRecursion (λ x. t x ≡ false) xs → list_any t (xs ++ ys) ≡ list_any t ys
 any_behind t [] ys h = refl
-any_behind t (x ∷ xs) ys h = ap (λ b. b || list_any t (xs ++ ys)) h.0 ∙ any_behind t xs ys h.1
+any_behind t (x ∷ xs) ys h = grind (arith, (any_behind t xs ys h.1))
 
 pub written_same : {A : Type 0} (mine yours : Rule A ℕ FaultValue) (xs : List A) → AllByRecursion (λ x. (mine.decided x ≡ yours.decided x) × (mine.lines x ≡ yours.lines x)) xs → written mine xs ≡ written yours xs
 written_same mine yours xs h = grind (arith, take_same, all_so, flat_map_same, common_steps)
 
 pub written_before : {A : Type 0} (rule : Rule A ℕ FaultValue) (xs ys : List A) → AllByRecursion (λ y. rule.decided y ≡ false) ys → written rule (xs ++ ys) ≡ written rule xs
-written_before rule xs ys h = ap (flat_map rule.lines) (take_before rule.decided xs ys h)
+written_before rule xs ys h = grind (arith, take_before)
+
+-- what is written of the members of both parts begins the lines of the first and what is written of the second: either all of the first are decided, or none of the second
+pub meets : {A : Type 0} (one whole : Rule A ℕ FaultValue) (xs ys : List A) (later : List ℕ) → AllByRecursion (λ x. whole.lines x ≡ one.lines x) xs → written whole ys ≡ later
+    → (list_all whole.decided xs ≡ true) ⊎ AllByRecursion (λ y. whole.decided y ≡ false) ys → (rest : List ℕ) × (flat_map one.lines xs ++ later ≡ written whole (xs ++ ys) ++ rest)
+meets one whole xs ys later same is (inl all) = grind (arith, written_past, flat_map_same, append-nil)
+meets one whole xs ys later same is (inr none) = grind (arith, append-nil, (take_front whole.decided whole.lines xs), (written_before whole xs ys none), (flat_map_same whole.lines one.lines xs same), (take_none whole.decided ys none))
 
 -- ---- what decides, and what hits
-
-elsewhere_misses : (rule : HitRule) (a b : Feature) → bytes_eq a.chrom b.chrom ≡ false → hits rule a b ≡ false
-elsewhere_misses rule a b e = apart_misses rule a b (grind arith)
 
 module _ (shape : Shape) (rule : HitRule) where
   pub lines_first : (a : Feature) (bones btwos : List Feature) → AllByRecursion (λ b. bytes_eq a.chrom b.chrom ≡ false) btwos → lines_for shape rule a (bones ++ btwos) ≡ lines_for shape rule a bones
   unfolding lines_for
-  lines_first a bones btwos h = grind (arith, filter-append, filter_none, all_so, elsewhere_misses, append-nil)
+  lines_first a bones btwos h = grind (arith, filter-append, filter_none, all_so, apart_misses, append-nil)
 
   pub lines_second : (a : Feature) (bones btwos : List Feature) → AllByRecursion (λ b. bytes_eq a.chrom b.chrom ≡ false) bones → lines_for shape rule a (bones ++ btwos) ≡ lines_for shape rule a btwos
   unfolding lines_for
-  lines_second a bones btwos h = grind (arith, filter-append, filter_none, all_so, elsewhere_misses)
+  lines_second a bones btwos h = grind (arith, filter-append, filter_none, all_so, apart_misses)
 
 -- ---- the faults of a meeting
-
-unless_some : (f : Option FaultValue) (output : List ℕ) → (f ≡ None → ⊥) → unless_fault f output ≡ []
-unless_some f output h = grind arith
 
 module _ (order : Order) (shape : Shape) (rule : HitRule) where
   -- the report on records and their faults
@@ -82,13 +82,13 @@ module _ (order : Order) (shape : Shape) (rule : HitRule) where
   decided_none bs (a ∷ given) = decided_none bs given
 
   fault_none : (given : List Feature) (fa : Option FaultValue) (bs : List Feature) → (sweep_report given fa bs None).fault ≡ fa
-  fault_none given fa bs = met_fault_all (sweep_rule order shape rule bs None) given fa (decided_none bs given) ∙ (grind arith)
+  fault_none given fa bs = grind (arith, decided_none)
 
   pub report_none : (given : List Feature) (fa : Option FaultValue) (bs : List Feature) (fb : Option FaultValue) → (sweep_report given fa bs fb).fault ≡ None → (fa ≡ None) × (fb ≡ None)
   report_none given fa bs fb e = grind (arith, fault_none)
 
   lines_none : (given : List Feature) (fa : Option FaultValue) (bs : List Feature) → (sweep_report given fa bs None).output ≡ intersect shape rule given bs
-  lines_none given fa bs = met_lines (sweep_rule order shape rule bs None) given fa ∙ sym (all_written (sweep_rule order shape rule bs None) given (decided_none bs given))
+  lines_none given fa bs = grind (arith, decided_none)
 
 -- the records of the second part, beside those of the first
 pub record AreSplit (order : Order) (total : IsTotal order) (aones atwos bones btwos : List Feature) : Type 0 where
@@ -119,14 +119,11 @@ module _ {order : Order} {total : IsTotal order} (shape : Shape) (rule : HitRule
     abbrev Whole : Report
     Whole = sweep_report order shape rule all fa bs fb
 
-    pub sweep_adds : Adds One Two Whole
-    sweep_adds = grind (arith, fault_none, flat_map-append, flat_map_same, all_so, lines_first, lines_second, lines_none)
-
   -- if the second input of the first part is at fault, nothing after it is written
   module _ (f : FaultValue) (fa1 fa2 fa fb2 fb : Option FaultValue) (all bs : List Feature) (ja : Contiguous fa1 fa2 fa aones atwos all) (jb : Contiguous (Some f) fb2 fb bones btwos bs) where
     written_one : (fa1 : Option FaultValue) → Contiguous fa1 fa2 fa aones atwos all → written (sweep_rule order shape rule bones (Some f)) all ≡ written (sweep_rule order shape rule bones (Some f)) aones
     written_one None j = grind (arith, (written_before (sweep_rule order shape rule bones (Some f)) aones atwos (all_so _ _ atwos (λ a h. none_from (decides order a) bones h) none_second)))
-    written_one (Some g) j = ap (written (sweep_rule order shape rule bones (Some f))) j.0
+    written_one (Some g) j = grind arith
 
     stops_second : Stops (sweep_report order shape rule aones fa1 bones (Some f)) (sweep_report order shape rule atwos fa2 btwos fb2) (sweep_report order shape rule all fa bs fb)
     stops_second = grind (arith, (met_lines (sweep_rule order shape rule bones (Some f)) aones fa1), (written_one fa1 ja), (met_lines (sweep_rule order shape rule bs fb) all fa))
@@ -135,17 +132,8 @@ module _ {order : Order} {total : IsTotal order} (shape : Shape) (rule : HitRule
     abbrev Rule-of-both : Rule Feature ℕ FaultValue
     Rule-of-both = sweep_rule order shape rule bs fb
 
-    abbrev first_report : Report
-    first_report = sweep_report order shape rule aones fa1 bones None
-
-    abbrev second_report : Report
-    second_report = sweep_report order shape rule atwos fa2 btwos fb2
-
-    first_lines : first_report.output ≡ flat_map Rule-of-both.lines aones
-    first_lines = grind (arith, flat_map_same, all_so, lines_first, lines_none)
-
-    front : (rest : List ℕ) × (first_report.output ≡ written Rule-of-both aones ++ rest)
-    front = grind (arith, (take_front Rule-of-both.decided Rule-of-both.lines aones), flat_map_same, all_so, lines_first, lines_none)
+    first_same : AllByRecursion (λ a. Rule-of-both.lines a ≡ lines_for shape rule a bones) aones
+    first_same = grind (arith, all_so, lines_first)
 
     second_same : written Rule-of-both atwos ≡ written (sweep_rule order shape rule btwos fb2) atwos
     second_same =
@@ -158,40 +146,22 @@ module _ {order : Order} {total : IsTotal order} (shape : Shape) (rule : HitRule
           ap (lines_for shape rule a) jb.0 ∙ lines_second shape rule a bones btwos k,
         )) none_second split.apart_second)
 
-    -- all of the first part is decided
-    past_first : AllByRecursion (λ a. Rule-of-both.decided a ≡ true) aones → all ≡ aones ++ atwos → (rest : List ℕ) × (first_report.output ++ second_report.output ≡ (sweep_report order shape rule all fa bs fb).output ++ rest)
-    past_first h is = (
-      [],
-      ap₂ (λ x y. x ++ y) first_lines (met_lines (sweep_rule order shape rule btwos fb2) atwos fa2 ∙ sym second_same)
-          ∙ sym (written_past Rule-of-both aones atwos (all_true Rule-of-both.decided aones h))
-          ∙ ap (written Rule-of-both) (sym is) ∙ sym (met_lines Rule-of-both all fa) ∙ sym (append-nil _),
-    )
+    -- all of the first part is decided, or nothing of the second part is
+    either : (g : Option FaultValue) → fb2 ≡ g → (ts : List Feature) → btwos ≡ ts → (list_all Rule-of-both.decided aones ≡ true) ⊎ AllByRecursion (λ a. Rule-of-both.decided a ≡ false) atwos
+    either None e ts d = grind (arith, all_true, all_any)
+    either (Some g) e (b ∷ rest) d = grind (arith, all_true, all_so, first_decided)
+    either (Some g) e [] d = grind (arith, all_so, any_behind, none_second)
 
-    -- nothing of the second part is
-    before_second : AllByRecursion (λ a. Rule-of-both.decided a ≡ false) atwos → all ≡ aones ++ atwos → (rest : List ℕ) × (first_report.output ++ second_report.output ≡ (sweep_report order shape rule all fa bs fb).output ++ rest)
-    before_second h is = grind (arith, (append_assoc (written Rule-of-both aones) front.0 second_report.output), (met_lines Rule-of-both all fa), (written_before Rule-of-both aones atwos h))
+    abbrev Ends : Type 0
+    Ends = Stops (sweep_report order shape rule aones fa1 bones None) (sweep_report order shape rule atwos fa2 btwos fb2) (sweep_report order shape rule all fa bs fb)
 
-    or_decided : (a : Feature) → decided order a (bones ++ btwos) ≡ true → Rule-of-both.decided a ≡ true
-    or_decided a e = ap (λ d. is_none fb || d) (ap (decided order a) jb.0 ∙ e) ∙ (grind arith)
+    ends : (g : Option FaultValue) → fa1 ≡ g → (ys : List Feature) (later : List ℕ) → unless_fault g (sweep_report order shape rule atwos fa2 btwos fb2).output ≡ later → all ≡ aones ++ ys → written Rule-of-both ys ≡ later
+        → (list_all Rule-of-both.decided aones ≡ true) ⊎ AllByRecursion (λ a. Rule-of-both.decided a ≡ false) ys → Ends
+    ends g e ys later f is same met = grind (arith, (meets (sweep_rule order shape rule bones None) Rule-of-both aones ys later first_same same met), (lines_none order shape rule aones fa1 bones), (fault_none order shape rule aones fa1 bones), (met_lines Rule-of-both all fa))
 
-    either : (g : Option FaultValue) → fb2 ≡ g → (ts : List Feature) → btwos ≡ ts → all ≡ aones ++ atwos → (rest : List ℕ) × (first_report.output ++ second_report.output ≡ (sweep_report order shape rule all fa bs fb).output ++ rest)
-    either None e ts d is = past_first (all_any _ aones (λ a. ap (λ b. b || decided order a bs) (jb.1 ∙ ap is_none e))) is
-    either (Some g) e (b ∷ rest) d is = past_first (all_so _ _ aones (λ a h. or_decided a h) (first_decided b rest d)) is
-    either (Some g) e [] d is = grind (arith, before_second, all_so, any_behind, none_second)
-
-    stops_by : (g : Option FaultValue) → fa1 ≡ g → Stops first_report second_report (sweep_report order shape rule all fa bs fb)
-    stops_by None e =
-        let more = either fb2 refl btwos refl (grind arith) in
-        (more.0, ap (λ l. first_report.output ++ l) (grind arith) ∙ more.1)
-    stops_by (Some g) e = (
-      front.0,
-      ap (λ l. first_report.output ++ l) (unless_some first_report.fault second_report.output (λ none. let no = (report_none order shape rule aones fa1 bones None none).0 in cc)) ∙ append-nil first_report.output
-          ∙ front.1 ∙ ap (λ l. l ++ front.0) (sym (met_lines Rule-of-both all fa ∙ ap (written Rule-of-both) (only_first fa1 ja e))),
-    )
-      where
-        only_first : (f : Option FaultValue) → Contiguous f fa2 fa aones atwos all → f ≡ Some g → all ≡ aones
-        only_first None j e = cc
-        only_first (Some f) j e = j.0
+    stops_by : (g : Option FaultValue) → fa1 ≡ g → Ends
+    stops_by None e = ends None e atwos _ refl (grind arith) (second_same ∙ sym (met_lines (sweep_rule order shape rule btwos fb2) atwos fa2)) (either fb2 refl btwos refl)
+    stops_by (Some g) e = ends (Some g) e [] [] refl (grind (arith, append-nil)) refl (inr tt)
 
   pub sweep_stops : (fa1 fa2 fa fb1 fb2 fb : Option FaultValue) (all bs : List Feature) → Contiguous fa1 fa2 fa aones atwos all → Contiguous fb1 fb2 fb bones btwos bs
       → Stops (sweep_report order shape rule aones fa1 bones fb1) (sweep_report order shape rule atwos fa2 btwos fb2) (sweep_report order shape rule all fa bs fb)
@@ -200,4 +170,4 @@ module _ {order : Order} {total : IsTotal order} (shape : Shape) (rule : HitRule
 
   pub sweep_joins : (fa1 fa2 fa fb1 fb2 fb : Option FaultValue) (all bs : List Feature) → Contiguous fa1 fa2 fa aones atwos all → Contiguous fb1 fb2 fb bones btwos bs
       → Joins (sweep_report order shape rule aones fa1 bones fb1) (sweep_report order shape rule atwos fa2 btwos fb2) (sweep_report order shape rule all fa bs fb)
-  sweep_joins fa1 fa2 fa fb1 fb2 fb all bs ja jb = (sweep_adds fa1 fa2 fa fb1 fb2 fb all bs ja jb, sweep_stops fa1 fa2 fa fb1 fb2 fb all bs ja jb)
+  sweep_joins fa1 fa2 fa fb1 fb2 fb all bs ja jb = grind (arith, fault_none, flat_map-append, flat_map_same, all_so, lines_first, lines_second, lines_none, sweep_stops)

@@ -1,5 +1,5 @@
 -- The reports of bamtobed, merge, intersect and subtract on two concatenated texts, and on any number.
-use Rattle.bt_lines.proofs.Std.{common_steps, rules, arith, ◌≡◌, ℕ, Bool, List, [], ◌∷◌, ◌++◌, append-nil, Option, Some, None, refl, sym, ap, ◌∙◌, map, Ok, ap₂, flat_map-append, IsTrue, AllByRecursion, ◌⊎◌, append_assoc, inl, subst, flat_map, flat_map-map, inr}
+use Rattle.bt_lines.proofs.Std.{common_steps, rules, arith, ◌≡◌, ℕ, Bool, List, [], ◌∷◌, ◌++◌, append-nil, Option, Some, None, refl, sym, ap, ◌∙◌, map, Ok, flat_map-append, IsTrue, AllByRecursion, ◌⊎◌, append_assoc, inl, subst, flat_map, flat_map-map, inr}
 use Rattle.bt_lines.specs.model.Lines.{lines_from, text_lines, Handed}
 use Rattle.bt_lines.specs.declared.fault.Input.TheVariants.{First, Second}
 use Rattle.bt_bed.specs.model.Good.{Good, good, good_from, items_in, bed_format}
@@ -8,9 +8,9 @@ use Rattle.bt_laws.specs.Parts.{AreOfLines, StandsBefore, joined, ComeBefore, sa
 use Rattle.bt_tool.specs.model.Written.{Report, Written, good_report, alignments_written, merge_written}
 use Rattle.bt_tool.specs.model.Report.{report_of, chromosomes_of, order_in_use}
 use Rattle.bt_tool.specs.declared.planning.plan_type.Command.TheVariants.{BamToBed, Intersect, Merge, Subtract, MaskFasta}
-use Rattle.bt_laws.proofs.lemmas.parts.PartLines.{good_joint}
-use Rattle.bt_laws.proofs.lemmas.parts.PartReports.{Splits, parts_both, Joins, good_joins, nothing, together, parts_add, stop_more, stop_none, stop_one}
-use Rattle.bt_runs.proofs.lemmas.Lists.{all_any, all_back, all_front, all_so, all_unmap}
+use Rattle.bt_laws.proofs.lemmas.parts.PartLines.{good_joint, Earlier, bed_joint, good_earlier, good_known}
+use Rattle.bt_laws.proofs.lemmas.parts.PartReports.{Splits, parts_both, Joins, good_joins, nothing, together, parts_add, stop_more, stop_one}
+use Rattle.bt_runs.proofs.lemmas.Lists.{all_back, all_front, all_so, all_unmap}
 use Rattle.bt_lines.specs.declared.fault.Input.{Input}
 use Rattle.bt_bed.specs.model.Order.{Order}
 use Rattle.bt_bed.specs.calls.Orders.{bytes_total, IsTotal, ArePlaced}
@@ -25,15 +25,13 @@ use Rattle.bt_runs.specs.declared.merge.merge_strand.MergeStrand.TheVariants.{Al
 use Rattle.bt_sweep.specs.model.Lines.{subtract_shape}
 use Rattle.bt_sweep.specs.declared.hits.hit_rule.HitRule.{HitRule}
 use Rattle.bt_sweep.specs.declared.output.shape.Shape.{Shape}
-use Rattle.bt_laws.proofs.lemmas.parts.PartBed.{Earlier, bed_joint, good_earlier, items_all}
 use Rattle.bt_laws.proofs.lemmas.parts.PartMerge.{pooled_split, strands_split}
 use Rattle.bt_laws.proofs.lemmas.parts.PartGenomes.{names_apart, names_behind, records_away}
 use Rattle.bt_laws.proofs.lemmas.parts.PartSweep.{AreSplit, sweep_report, sweep_joins}
 use Rattle.bt_tool.specs.declared.planning.plan_type.Command.{Command}
 use Rattle.bt_lines.specs.model.Fault.{FaultValue}
 use Rattle.bt_seq.specs.declared.mask.mask_how.MaskHow.{MaskHow}
-use Rattle.bt_laws.proofs.lemmas.parts.PartMasked.{mask_is}
-use Rattle.bt_laws.proofs.lemmas.parts.PartMaskReports.{Lacks, faulty_first, lacks_kind, sound_goes, sound_stops, AreTwo, mask_adds, report_on, two_suffice}
+use Rattle.bt_laws.proofs.lemmas.parts.PartMaskReports.{mask_is, Lacks, faulty_first, lacks_kind, sound_goes, sound_stops, AreTwo, mask_adds, report_on, two_suffice}
 
 module _ (split cigar : Bool) where
   abbrev sam_of : List ℕ → Good Alignment
@@ -56,13 +54,10 @@ module _ (split cigar : Bool) where
       (good_joins sam_written sam_written sam_written (sam_of one) (sam_of two) (sam_of (one ++ two))
       (good_joint sam_format First one two ends (λ state l m e d. ap alignment_of e) (λ n. refl)) (lines_split _ _))
 
-pub lines_less : (text : List ℕ) (texts : List (List ℕ)) → AreOfLines (text ∷ texts) → AreOfLines texts
-lines_less text texts lines = lines.1
-
 pub sam_divides : bamtobed_divides
 unfolding report_of lines_from good_from
 sam_divides split cigar texts lines =
-    parts_both joined (on_text (BamToBed split cigar) None) AreOfLines refl (λ t. ap (on_text (BamToBed split cigar) None) (append-nil t)) lines_less
+    parts_both joined (on_text (BamToBed split cigar) None) AreOfLines refl (λ t. ap (on_text (BamToBed split cigar) None) (append-nil t)) (λ t ts lines. lines.1)
     (λ t u ts fits. text_joins split cigar t (joined (u ∷ ts)) fits.0) texts lines
 
 -- ---- records
@@ -102,9 +97,6 @@ module _ (order : Order) (total : IsTotal order) where
   abbrev pub pair_report : Shape → HitRule → List ℕ → List ℕ → Report
   pair_report shape rule first second = sweep_report order shape rule (text_records First first) (bed_text_good First first).fault (text_records Second second) (bed_text_good Second second).fault
 
-  known_all : (input : Input) (text : List ℕ) → AllByRecursion (λ r. IsTrue (order.knows r.chrom)) (text_records input text)
-  known_all input text = items_all (sorting_of order) input (λ r. IsTrue (order.knows r.chrom)) None (text_lines text) (all_any _ _ (λ r known. known))
-
   module _ (shape : Shape) (rule : HitRule) (a_one b_one a_two b_two : List ℕ) (a_ends : StandsBefore a_one a_two) (b_ends : StandsBefore b_one b_two)
       (before : ComeBefore order (said_records a_one ++ said_records b_one) (said_records a_two ++ said_records b_two)) where
     parts : ComeBefore order (said_records a_one) (said_records a_two) × ComeBefore order (said_records a_one) (said_records b_two) × ComeBefore order (said_records b_one) (said_records a_two) × ComeBefore order (said_records b_one) (said_records b_two)
@@ -115,12 +107,12 @@ module _ (order : Order) (total : IsTotal order) where
         let early = good_earlier order total a_one b_two parts.1 First Second in
         let late = good_earlier order total b_one a_two parts.2 Second First in
         record {
-          known = known_all Second b_two;
-          known_first = known_all First a_one;
+          known = good_known order total Second b_two;
+          known_first = good_known order total First a_one;
           first_second = early;
           second_first = late;
-          apart_first = names_apart order total (text_records First a_one) (text_records Second b_two) (known_all First a_one) early;
-          apart_second = names_behind order total (text_records Second b_one) (text_records First a_two) (known_all Second b_one) late;
+          apart_first = names_apart order total (text_records First a_one) (text_records Second b_two) (good_known order total First a_one) early;
+          apart_second = names_behind order total (text_records Second b_one) (text_records First a_two) (good_known order total Second b_one) late;
         }
 
     pub pair_joins : Joins (pair_report shape rule a_one b_one) (pair_report shape rule a_two b_two) (pair_report shape rule (a_one ++ a_two) (b_one ++ b_two))
@@ -143,20 +135,8 @@ module _ (genome : Option Handed) (chromosomes : Option (List Entry)) (has : chr
   unfolding report_of
   subtract_is whole rule texts = grind arith
 
--- texts that are divided so
-pub record AreFit (order : Order) (texts : List (List ℕ)) : Type 0 where
-  pub lines : AreOfLines texts
-  pub ascend : TextsAscend order texts
-
-fit_less : (order : Order) (text : List ℕ) (texts : List (List ℕ)) → AreFit order (text ∷ texts) → AreFit order texts
-fit_less order text texts fit = record { lines = lines_less text texts fit.lines; ascend = fit.ascend.1 }
-
-pub record ArePairsFit (order : Order) (parts : List Texts) : Type 0 where
-  pub lines : ArePairs parts
-  pub ascend : PairsAscend order parts
-
 pub join_one : (part : Texts) → joined_texts (part ∷ []) ≡ part
-join_one part = ap₂ (λ a b. record { first = a; second = b }) (append-nil part.first) (append-nil part.second)
+join_one part = grind (arith, append-nil)
 
 module _ (order : Order) (total : IsTotal order) where
   pub merge_empty : (d : ℕ) (strand : MergeStrand) → merge_report order total d strand [] ≡ nothing
@@ -172,21 +152,21 @@ merge_parts d strand genome chromosomes texts has lines ascend =
     let order = order_in_use chromosomes in
     let total = order_total chromosomes in
     let is : (text : List ℕ) → on_text (Merge d strand) genome text ≡ merge_report order total d strand text = merge_is genome chromosomes has d strand in
-    parts_both joined (on_text (Merge d strand) genome) (AreFit order) (is [] ∙ merge_empty order total d strand) (λ t. ap (on_text (Merge d strand) genome) (append-nil t)) (fit_less order)
+    parts_both joined (on_text (Merge d strand) genome) (λ ts. AreOfLines ts × TextsAscend order ts) (is [] ∙ merge_empty order total d strand) (λ t. ap (on_text (Merge d strand) genome) (append-nil t)) (λ t ts f. (f.0.1, f.1.1))
     (λ t u ts f.
     let more = joined (u ∷ ts) in
-    rw (is t, is more, is (t ++ more)) (merge_joins order total d strand t more f.lines.0 f.ascend.0))
-    texts (record { lines = lines; ascend = ascend })
+    rw (is t, is more, is (t ++ more)) (merge_joins order total d strand t more f.0.0 f.1.0))
+    texts (lines, ascend)
 
 -- a command that writes such a report
 sweep_parts : (command : Command) (shape : Shape) (rule : HitRule) (genome : Option Handed) (order : Order) (total : IsTotal order) → ((texts : Texts) → on_texts command genome texts ≡ pair_report order total shape rule texts.first texts.second)
     → (parts : List Texts) → ArePairs parts → PairsAscend order parts → PairsAddUp command genome parts
 sweep_parts command shape rule genome order total is parts lines ascend =
-    parts_both joined_texts (on_texts command genome) (ArePairsFit order) (is (joined_texts []) ∙ pair_empty order total shape rule) (λ t. ap (on_texts command genome) (join_one t)) (grind arith)
+    parts_both joined_texts (on_texts command genome) (λ ts. ArePairs ts × PairsAscend order ts) (is (joined_texts []) ∙ pair_empty order total shape rule) (λ t. ap (on_texts command genome) (join_one t)) (λ t ts f. ((f.0.0.1, f.0.1.1), f.1.1))
     (λ t u ts f.
     let more = joined_texts (u ∷ ts) in
-    rw (is t, is more, is (joined_texts (t ∷ u ∷ ts))) (pair_joins order total shape rule t.first t.second more.first more.second f.lines.0.0 f.lines.1.0 f.ascend.0))
-    parts (record { lines = lines; ascend = ascend })
+    rw (is t, is more, is (joined_texts (t ∷ u ∷ ts))) (pair_joins order total shape rule t.first t.second more.first more.second f.0.0.0 f.0.1.0 f.1.0))
+    parts (lines, ascend)
 
 pub intersect_parts : intersect_divides
 intersect_parts shape rule genome chromosomes parts has =
@@ -213,90 +193,65 @@ module _ (how : MaskHow) (full : Bool) where
   alone t = ap T (join_one t)
 
   -- parts of complete lines, divided at headers
-  record AreMasked (parts : List Texts) : Type 0 where
-    lines : ArePairs parts
-    headers : AreAtHeaders parts
+  abbrev AreMasked : List Texts → Type 0
+  AreMasked parts = ArePairs parts × AreAtHeaders parts
+
+  masked_less : (t : Texts) (ts : List Texts) → AreMasked (t ∷ ts) → AreMasked ts
+  masked_less t ts fit = grind arith
 
   begins_joined : (parts : List Texts) → AllByRecursion (λ later. IsTrue (begins_sequence later.first)) parts → IsTrue (begins_sequence (joined_texts parts).first)
   begins_joined [] h = refl
   begins_joined (t ∷ ts) h = grind (arith, (begins_joined ts h.1))
 
   are_two : (t u : Texts) (ts : List Texts) → AreMasked (t ∷ u ∷ ts) → AreTwo how full t (joined_texts (u ∷ ts))
-  are_two t u ts fit = grind (arith, (begins_joined (u ∷ ts) fit.headers))
+  are_two t u ts fit = grind (arith, (begins_joined (u ∷ ts) fit.1))
 
   -- ---- names of one part alone
 
-  record OwnFit (parts : List Texts) : Type 0 where
-    fit : AreMasked parts
-    own : MaskTheirOwn full parts
-
-  own_less : (t : Texts) (ts : List Texts) → OwnFit (t ∷ ts) → OwnFit ts
-  own_less t ts own = record { fit = grind arith; own = own.own.2 }
-
-  own_add : (parts : List Texts) → OwnFit parts → AddUp (map T parts) (T (joined_texts parts))
-  own_add = parts_add joined_texts T OwnFit empty alone own_less
-      (λ t u ts own. mask_adds how full t (joined_texts (u ∷ ts)) (are_two t u ts own.fit) own.own.0 own.own.1)
+  own_add : (parts : List Texts) → AreMasked parts × MaskTheirOwn full parts → AddUp (map T parts) (T (joined_texts parts))
+  own_add = parts_add joined_texts T (λ ts. AreMasked ts × MaskTheirOwn full ts) empty alone (λ t ts own. (masked_less t ts own.0, own.1.2))
+      (λ t u ts own. mask_adds how full t (joined_texts (u ∷ ts)) (are_two t u ts own.0) own.1.0 own.1.1)
 
   -- what the single run writes begins what the parts write, or begins with it
   abbrev Ends : List Texts → Type 0
   Ends parts = StopWithin (map T parts) (T (joined_texts parts))
       ⊎ (Lacks how full (joined_texts parts) × ((more : List ℕ) × ((T (joined_texts parts)).output ≡ outputs_to_fault (map T parts) ++ more)))
 
-  module _ (t u : Texts) (ts : List Texts) (own : OwnFit (t ∷ u ∷ ts)) where
+  module _ (t u : Texts) (ts : List Texts) (fit : AreMasked (t ∷ u ∷ ts)) (own : MaskTheirOwn full (t ∷ u ∷ ts)) where
     abbrev Rest : Texts
     Rest = joined_texts (u ∷ ts)
 
-    abbrev Outputs : List ℕ
-    Outputs = outputs_to_fault (map T (u ∷ ts))
-
-    two : AreTwo how full t (joined_texts (u ∷ ts))
-    two = are_two t u ts own.fit
-
-    end_faulty : ((T t).fault ≡ None → ⊥) → Ends (t ∷ u ∷ ts)
-    end_faulty some = grind (arith, (faulty_first how full t (joined_texts (u ∷ ts)) two own.own.0 own.own.1 some), rules)
-
-    end_sound : (T t).fault ≡ None → Ends (u ∷ ts) → Ends (t ∷ u ∷ ts)
-    end_sound none ends = elim ends [
-      | inl stops ↦ inl (stop_more (T t) (map T (u ∷ ts)) (T Rest) (T (joined_texts (t ∷ u ∷ ts))) stops (sound_stops how full t (joined_texts (u ∷ ts)) two own.own.0 own.own.1 none))
-      | inr goes ↦ grind (arith, (sound_goes how full t (joined_texts (u ∷ ts)) two own.own.0 own.own.1 none goes.0), (append_assoc (T t).output Outputs goes.1.0))
-    ]
-
     end_by : (fault : Option FaultValue) → (T t).fault ≡ fault → Ends (u ∷ ts) → Ends (t ∷ u ∷ ts)
-    end_by fault e ends = grind (arith, end_sound, end_faulty)
+    end_by (Some fault) e ends = grind (arith, (faulty_first how full t Rest (are_two t u ts fit) own.0 own.1 (λ none. grind arith)), rules)
+    end_by None e (inl stops) = inl (stop_more (T t) (map T (u ∷ ts)) (T Rest) (T (joined_texts (t ∷ u ∷ ts))) stops (sound_stops how full t Rest (are_two t u ts fit) own.0 own.1 e))
+    end_by None e (inr goes) = grind (arith, (sound_goes how full t Rest (are_two t u ts fit) own.0 own.1 e goes.0), (append_assoc (T t).output (outputs_to_fault (map T (u ∷ ts))) goes.1.0))
 
-  ends_all : (parts : List Texts) → OwnFit parts → Ends parts
-  ends_all [] own = inl (stop_none (T (joined_texts [])) (ap (λ (r : Report). r.output) empty))
-  ends_all (t ∷ []) own = inl (subst (λ r. StopWithin (T t ∷ []) r) (sym (alone t)) (stop_one (T t)))
-  ends_all (t ∷ u ∷ ts) own = end_by t u ts own (T t).fault refl (ends_all (u ∷ ts) (own_less t (u ∷ ts) own))
+  ends_all : (parts : List Texts) → AreMasked parts → MaskTheirOwn full parts → Ends parts
+  ends_all [] fit own = grind (arith, empty)
+  ends_all (t ∷ []) fit own = inl (subst (λ r. StopWithin (T t ∷ []) r) (sym (alone t)) (stop_one (T t)))
+  ends_all (t ∷ u ∷ ts) fit own = end_by t u ts fit own (T t).fault refl (ends_all (u ∷ ts) (masked_less t (u ∷ ts) fit) own.2)
 
-  own_stop : (parts : List Texts) → OwnFit parts → StopWithin (map T parts) (T (joined_texts parts)) ⊎ WritesOn (map T parts) (T (joined_texts parts))
-  own_stop parts own = elim (ends_all parts own) [
-    | inl stops ↦ inl stops
-    | inr goes ↦ inr (lacks_kind how full (joined_texts parts) goes.0, goes.1)
-  ]
+  ends_on : (texts : List Texts) → Ends texts → StopWithin (map T texts) (T (joined_texts texts)) ⊎ WritesOn (map T texts) (T (joined_texts texts))
+  ends_on texts (inl stops) = inl stops
+  ends_on texts (inr goes) = inr (lacks_kind how full (joined_texts texts) goes.0, goes.1)
 
   -- ---- names of several parts
 
-  record CutFit (parts : List Texts) : Type 0 where
-    fit : AreMasked parts
-    none : NoneMoves full parts
-
-  suffice_all : (parts : List Texts) → CutFit parts → AllByRecursion (λ part. (T part).fault ≡ None) parts
+  suffice_all : (parts : List Texts) → AreMasked parts → NoneMoves full parts → AllByRecursion (λ part. (T part).fault ≡ None) parts
       → ((T (joined_texts parts)).fault ≡ None) × ((T (joined_texts parts)).output ≡ flat_map (λ part. (T part).output) parts)
-  suffice_all [] cut all = (ap (λ (r : Report). r.fault) empty, ap (λ (r : Report). r.output) empty)
-  suffice_all (t ∷ []) cut all = grind (arith, (alone t), append-nil)
-  suffice_all (t ∷ u ∷ ts) cut all =
-      let more = suffice_all (u ∷ ts) (record { fit = grind arith; none = cut.none.1 }) all.1 in
-      grind (arith, (two_suffice how full t (joined_texts (u ∷ ts)) (are_two t u ts cut.fit) cut.none.0 all.0 more.0))
+  suffice_all [] fit none all = grind (arith, empty)
+  suffice_all (t ∷ []) fit none all = grind (arith, append-nil)
+  suffice_all (t ∷ u ∷ ts) fit none all =
+      let more = suffice_all (u ∷ ts) (masked_less t (u ∷ ts) fit) none.1 all.1 in
+      grind (arith, (two_suffice how full t (joined_texts (u ∷ ts)) (are_two t u ts fit) none.0 all.0 more.0))
 
 pub mask_divides : maskfasta_divides
 mask_divides how full parts lines headers own =
-    let fit : OwnFit how full parts = record { fit = record { lines = lines; headers = headers }; own = own } in
-    rw (on_is how full parts, mask_is how full (joined_texts parts)) (own_add how full parts fit, own_stop how full parts fit)
+    rw (on_is how full parts, mask_is how full (joined_texts parts))
+    (own_add how full parts ((lines, headers), own), ends_on how full parts (ends_all how full parts (lines, headers) own))
 
 pub repeated_divide : repeated_names_divide
 repeated_divide how full parts lines headers none all =
-    let sound = all_unmap _ (report_on how full) parts (rw (on_is how full parts) at all) in
-    let whole = suffice_all how full parts (record { fit = record { lines = lines; headers = headers }; none = none }) sound in
+    let whole = suffice_all how full parts (lines, headers) none (all_unmap _ (report_on how full) parts (rw (on_is how full parts) at all)) in
     rw (on_is how full parts, mask_is how full (joined_texts parts))
     (whole.0, whole.1 ∙ sym (flat_map-map (λ (part : Report). part.output) (report_on how full) parts))

@@ -1,6 +1,5 @@
 -- The lines of alignments that are sorted are an input.
-use Rattle.bt_lines.proofs.Std.{common_steps, rules, ◌≡◌, ℕ, ◌<◌, ◌≤◌, Bool, true, false, cond, List, [], ◌∷◌, ◌++◌, append-nil, append_assoc, map, filter, length, Option, Some, None, Ok, refl, sym, ap, ◌∙◌, subst, arith, eqb, decimal, codes, if◌then◌else◌, AllByRecursion, join_with_byte, ends_with_byte, strip_last, All-append, All-from_recursion, join_with_byte-slice_split, suc, flat_map, get_or-append-add, length-append}
-use Rattle.std.specs.Prelude.{option_and_then}
+use Rattle.bt_lines.proofs.Std.{common_steps, rules, ◌≡◌, ℕ, ◌<◌, ◌≤◌, Bool, true, false, cond, List, [], ◌∷◌, ◌++◌, append-nil, append_assoc, map, filter, length, Option, Some, None, Ok, refl, sym, ap, ◌∙◌, subst, arith, eqb, decimal, codes, if◌then◌else◌, AllByRecursion, join_with_byte, ends_with_byte, strip_last, All-append, join_with_byte-slice_split, suc, flat_map, get_or-append-add, length-append}
 use Rattle.bt_lines.specs.model.Lines.{lines_handed, TextLine, pieces, end_bytes, fed_line, last_line, lines_from}
 use Rattle.bt_lines.specs.calls.Line.{NoLineFeed}
 use Rattle.bt_lines.specs.declared.fault.Input.{Input}
@@ -11,12 +10,12 @@ use Rattle.bt_bed.specs.model.BedLine.{kept_columns, strand_of}
 use Rattle.bt_bed.specs.calls.Features.{IsName, columns_in}
 use Rattle.bt_bed.specs.declared.record.strand.Strand.TheVariants.{Plus, Minus}
 use Rattle.bt_bed.proofs.lemmas.parse.FeatureLemmas.{kept_is_cut, pieces_are_columns}
-use Rattle.bt_seq.specs.model.Alignment.{Alignment, Fields, alignment_of, sam_columns_say, fields_of, fields_say, value_up_to, bed_lines, read_name, strand_sign, cigar_length, operations_in, each_operation, parts_of, sam_format}
+use Rattle.bt_seq.specs.model.Alignment.{Alignment, Fields, alignment_of, sam_columns_say, fields_of, fields_say, value_up_to, bed_lines, read_name, strand_sign, cigar_length, operations_in, parts_of, sam_format}
 use Rattle.bt_tool.specs.model.Written.{alignment_lines}
 use Rattle.bt_tool.specs.model.Report.{Inputs, report_of}
 use Rattle.bt_tool.specs.declared.planning.plan_type.Command.TheVariants.{BamToBed}
 use Rattle.bt_laws.specs.Pipes.{aligned_at, aligned_record, alignments_of, bamtobed_is_input, IsInput, is_no_header}
-use Rattle.bt_laws.proofs.lemmas.pipes.LinesBack.{clear_back, clear_both, clear_front, clear_tab, clear_number, Columns, IsColumns, record_back, text_of_columns, written_back, ends_both, strip_both, clear_handed, clear_strip}
+use Rattle.bt_laws.proofs.lemmas.pipes.LinesBack.{clear_back, clear_both, clear_front, clear_number, Columns, IsColumns, record_back, text_of_columns, written_back, ends_both, strip_both, clear_handed, clear_strip}
 use Rattle.bt_runs.proofs.lemmas.Lists.{all_so}
 use Rattle.bt_lines.specs.declared.reader.line.LineEnd.{LineEnd}
 use Rattle.bt_lines.specs.declared.reader.line.LineEnd.TheVariants.{Absent, Cr, CrLf, Lf}
@@ -44,7 +43,7 @@ parts_none (byte ∷ bytes) = grind (arith, (parts_none bytes))
 
 none_in : (text : List ℕ) → operations_in (text ++ 13 ∷ []) ≡ None
 unfolding operations_in
-none_in text = ap (option_and_then each_operation) (parts_none text)
+none_in text = grind (arith, (parts_none text))
 
 record IsPlain (text : List ℕ) : Type 0 where
   some : 0 < length text
@@ -109,23 +108,14 @@ line_as : (cigar : Bool) (a : Alignment) → bed_lines false cigar a ≡ text_of
 unfolding cigar_tail
 line_as cigar a = grind (arith, append_assoc)
 
-clear_segment : (number : ℕ) → eqb number 10 ≡ false → NoLineFeed (47 ∷ number ∷ [])
-clear_segment number e = grind (arith, eqb)
-
-clear_read : (a : Alignment) → NoLineFeed a.name → NoLineFeed (read_name a)
-clear_read a h = grind (arith, clear_both, codes, clear_segment)
-
-clear_cigar_tail : (cigar : Bool) (a : Alignment) → NoLineFeed a.cigar → NoLineFeed (cigar_tail cigar a)
-unfolding cigar_tail
-clear_cigar_tail cigar a h = grind arith
-
 columns_aligned : (cigar : Bool) (a : Alignment) → IsAligned a → IsColumns (aligned_columns cigar a)
-columns_aligned cigar a is = grind (arith, clear_tab, (decimal a.quality), clear_both, (clear_read a is.clear_name), (clear_number a.quality), (clear_cigar_tail cigar a is.clear_cigar))
+unfolding cigar_tail
+columns_aligned cigar a is = grind (arith, clear_both, codes, eqb, (clear_number a.quality))
 
 -- ---- the record that is read of it
 
 whole_tail : (front back tail : List ℕ) → tail ≡ front ++ back → 0 < length back → strip_last 13 back ≡ back → strip_last 13 tail ≡ tail
-whole_tail front back tail e some plain = ap (strip_last 13) e ∙ strip_both 13 front back some ∙ ap (λ l. front ++ l) plain ∙ sym e
+whole_tail front back tail e some plain = grind (arith, strip_both)
 
 tail_plain : (cigar : Bool) (a : Alignment) → IsAligned a → strip_last 13 (tail_of cigar a) ≡ tail_of cigar a
 unfolding cigar_tail
@@ -144,11 +134,8 @@ tail_kept cigar a = search rules
 column_both : (xs ys : List ℕ) → IsColumn xs → IsColumn ys → IsColumn (xs ++ ys)
 column_both xs ys h k = All-append IsInside xs ys h k
 
-segment_column : (number : ℕ) → IsInside number → IsColumn (47 ∷ number ∷ [])
-segment_column number inside = All-from_recursion IsInside (47 ∷ number ∷ []) (refl, (inside, tt))
-
 name_column : (a : Alignment) → IsColumn a.name → IsColumn (read_name a)
-name_column a h = grind (arith, column_both, codes, segment_column)
+name_column a h = grind (arith, column_both)
 
 strand_is : (cigar : Bool) (a : Alignment) → IsAligned a → strand_of (columns_in (kept_columns (read_name a ∷ columns_after cigar a))) ≡ (if a.reverse then Minus else Plus)
 strand_is cigar a is = ap strand_of (kept_is_cut (read_name a) (columns_after cigar a) (name_column a is.one_name) (grind (arith, number_column))) ∙ (grind arith)
@@ -189,24 +176,18 @@ pub record Stands (old new : List ℕ) : Type 0 where
 clear_return : (text : List ℕ) → NoLineFeed text → NoLineFeed (text ++ 13 ∷ [])
 clear_return text h = grind (arith, clear_both, eqb)
 
-stripped : (text : List ℕ) → strip_last 13 (text ++ 13 ∷ []) ≡ text
-stripped text = strip_both 13 text (13 ∷ []) (omega arith) ∙ append-nil text
-
-returned : (text : List ℕ) → ends_with_byte 13 (text ++ 13 ∷ []) ≡ true
-returned text = ends_both 13 text (13 ∷ []) (omega arith)
-
 abbrev line_at : ℕ → List ℕ → LineEnd → TextLine
 line_at number text ending = record { number = number; text = text; ending = ending }
 
 fed_by : (m : ℕ) (new rest : List ℕ) (b : Bool) → NoLineFeed new → (b ≡ false → ends_with_byte 13 new ≡ false) → lines_from m ((new ++ end_bytes (cond b CrLf Lf)) ++ rest) ≡ line_at m new (cond b CrLf Lf) ∷ lines_from (suc m) rest
-fed_by m new rest true clear last = grind (arith, (append_assoc new (13 ∷ 10 ∷ []) rest), (append_assoc new (13 ∷ []) (10 ∷ rest)), (lines_from-fed m (new ++ 13 ∷ []) rest (clear_return new clear)), (clear_return new clear), (suc m), (stripped new), (returned new))
+fed_by m new rest true clear last = grind (arith, (append_assoc new (13 ∷ 10 ∷ []) rest), (append_assoc new (13 ∷ []) (10 ∷ rest)), (lines_from-fed m (new ++ 13 ∷ []) rest (clear_return new clear)), strip_both, append-nil, ends_both)
 fed_by m new rest false clear last = grind (arith, append_assoc, lines_from-fed)
 
 last_some : (m : ℕ) (bytes : List ℕ) → 0 < length bytes → last_line m bytes ≡ record { number = m; text = strip_last 13 bytes; ending = if ends_with_byte 13 bytes then Cr else Absent } ∷ []
 last_some m bytes some = grind arith
 
 last_by : (m : ℕ) (new : List ℕ) (b : Bool) → NoLineFeed new → (b ≡ false → ends_with_byte 13 new ≡ false) → (b ≡ false → 0 < length new) → lines_from m (new ++ end_bytes (cond b Cr Absent)) ≡ line_at m new (cond b Cr Absent) ∷ []
-last_by m new b clear last some = grind (arith, lines_from-last, clear_return, last_some, stripped, returned, append-nil)
+last_by m new b clear last some = grind (arith, lines_from-last, clear_return, last_some, strip_both, ends_both, append-nil)
 
 -- ---- all lines
 

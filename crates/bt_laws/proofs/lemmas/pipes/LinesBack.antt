@@ -1,11 +1,11 @@
 -- Lines and numbers have no line feed.
-use Rattle.bt_lines.proofs.Std.{common_steps, rules, ◌≡◌, ℕ, Bool, true, false, List, [], ◌∷◌, ◌++◌, refl, sym, subst, eqb, suc, ◌<◌, ◌≤◌, cond, arith, decimal, AllByRecursion, ends_with_byte, strip_last, All-append, All-cons, All-head, All-tail, All-nil, ◌||◌, length, Option, Some, None, Ok, ap, ◌∙◌, append_assoc, append-nil, IsTrue, ◌==◌, decimal_is_IsNumeral, get_or-append-add, length-append, Err, map, filter, flat_map, flat_map-map, Result, join_with_byte, join_with_byte-slice_split}
+use Rattle.bt_lines.proofs.Std.{common_steps, rules, ◌≡◌, ℕ, Bool, true, false, List, [], ◌∷◌, ◌++◌, refl, sym, subst, eqb, suc, ◌<◌, ◌≤◌, cond, arith, decimal, AllByRecursion, ends_with_byte, strip_last, All-append, All-cons, All-head, All-tail, All-nil, length, Option, Some, None, Ok, ap, ◌∙◌, append_assoc, append-nil, IsTrue, decimal_is_IsNumeral, get_or-append-add, length-append, Err, map, filter, flat_map, flat_map-map, Result, join_with_byte, join_with_byte-slice_split}
 use Rattle.bt_lines.specs.calls.Line.{NoLineFeed}
 use Rattle.bt_lines.specs.model.Lines.{TextLine, last_line, lines_from, whole_lines_from, text_lines, Handed, lines_handed, pieces, value_of}
 use Rattle.bt_lines.proofs.lemmas.reader.lines.TextLemmas.{lines_from-fed, lines_from-last, by_lines, whole_lines_from-fed, whole_lines_from-last, lines_from-nil}
 use Rattle.bt_runs.proofs.lemmas.Lists.{all_so, all_any, all_map, map_map, flat_map_same}
 use Rattle.bt_bed.specs.model.Feature.{Feature, interval_of, intervals_of, Interval}
-use Rattle.bt_bed.specs.model.BedLine.{is_header, is_header_word, record_of, strand_of}
+use Rattle.bt_bed.specs.model.BedLine.{is_header, record_of, strand_of}
 use Rattle.bt_bed.specs.calls.Features.{IsName, columns_in, is_kept, IsFeature}
 use Rattle.bt_bed.proofs.lemmas.parse.FeatureLemmas.{header_says, record_said, said_is_feature, said_stands, pieces_are_columns}
 use Rattle.bt_laws.proofs.lemmas.single.Records.{written_feature, until_tab, IsDigit, decimal_digits, columns_text}
@@ -33,7 +33,7 @@ pub clear_both : (xs ys : List ℕ) → NoLineFeed xs → NoLineFeed ys → NoLi
 clear_both xs ys h k = All-append (λ b. eqb b 10 ≡ false) xs ys h k
 
 pub clear_tab : (xs : List ℕ) → NoLineFeed xs → NoLineFeed (9 ∷ xs)
-clear_tab xs h = All-cons (λ b. eqb b 10 ≡ false) 9 xs refl h
+clear_tab xs h = grind (arith, All-cons)
 
 pub clear_strip : (byte : ℕ) (xs : List ℕ) → NoLineFeed xs → NoLineFeed (strip_last byte xs)
 clear_strip byte xs h = grind (arith, common_steps)
@@ -86,14 +86,11 @@ strip_both byte front back some = grind (arith, common_steps)
 
 -- ---- digits
 
-pub some_digits : (n : ℕ) → n ≤ 999999999999 → 0 < length (decimal n)
-some_digits n small = (decimal_is_IsNumeral n (omega arith)).0.0
-
 -- ---- the first word
 
 pub header_of_name : (chrom tail : List ℕ) → 0 < length chrom → is_header (chrom ++ 9 ∷ tail) ≡ is_header chrom
 header_of_name [] tail some = absurd (omega arith)
-header_of_name (byte ∷ chrom) tail some = ap (λ word. (byte == 35) || is_header_word word) (until_tab (byte ∷ chrom) tail)
+header_of_name (byte ∷ chrom) tail some = grind (arith, (until_tab (byte ∷ chrom) tail))
 
 -- ---- a line
 
@@ -109,16 +106,16 @@ module _ (chrom : List ℕ) (start stop : ℕ) (named : IsName chrom) (below : s
   name_first tail = simp append_assoc
 
   header_first : (tail : List ℕ) → is_header (columns_text chrom start stop tail) ≡ is_header chrom
-  header_first tail = ap is_header (name_first tail) ∙ header_of_name chrom (decimal start ++ 9 ∷ (decimal stop ++ tail)) named.some
+  header_first tail = grind (arith, name_first, header_of_name)
 
   first_says : (tail : List ℕ) (b : Bool) → is_header chrom ≡ b → IsTrue (is_kept tail) → record_of (columns_text chrom start stop tail) ≡ Ok (cond b None (Some (record_with chrom start stop tail)))
-  first_says tail true e kept = header_says (columns_text chrom start stop tail) (header_first tail ∙ e)
+  first_says tail true e kept = grind (arith, header_says, header_first)
   first_says tail false e kept =
       written_feature (record_with chrom start stop tail) (record { named = named; non_empty = below; in_range = small; kept = kept; stranded = refl })
       (header_first tail ∙ e)
 
   pub strip_columns : (tail : List ℕ) → strip_last 13 (columns_text chrom start stop tail) ≡ columns_text chrom start stop (strip_last 13 tail)
-  strip_columns [] = grind (arith, strip_both, some_digits, append-nil, strip_decimal)
+  strip_columns [] = grind (arith, strip_both, decimal_is_IsNumeral, append-nil, strip_decimal)
   strip_columns (byte ∷ bytes) = grind (arith, strip_both)
 
   -- what is kept of what follows is empty, or begins with a tab
@@ -147,7 +144,7 @@ module _ (order : Order) (total : IsTotal order) where
 
   pub placed_follow : (rs : List Feature) → ArePlaced order (intervals_of rs) → Follow None rs
   placed_follow [] placed = tt
-  placed_follow (r ∷ rs) placed = (placed.0, refl, placed_behind r rs placed.0 placed.1 placed.2)
+  placed_follow (r ∷ rs) placed = grind (arith, placed_behind)
 
   module _ {X : Type 0} (text : X → List ℕ) (said : X → Option Feature) where
     -- the line of x has no line feed, and says what it is to say
@@ -279,22 +276,11 @@ pub record IsChrom (entry : Entry) : Type 0 where
   pub some : 0 < entry.length
   pub small : entry.length ≤ 999999999999
 
-value_at_most : (text : List ℕ) (n : ℕ) → value_of text ≡ Some n → n ≤ 999999999999
-unfolding value_of
-value_at_most text n e = grind arith
-
 columns_said : (text : List ℕ) (columns : List (List ℕ)) (entry : Entry) → NoLineFeed text → pieces 9 text ≡ columns → columns_give columns ≡ Ok entry → IsChrom entry
+unfolding value_of
 columns_said text [] entry clear cut e = cc
 columns_said text (name ∷ []) entry clear cut e = cc
-columns_said text (name ∷ size ∷ rest) entry clear cut e =
-    grind (
-      arith,
-      (value_of size),
-      (join_with_byte-slice_split 9 text),
-      (pieces_are_columns text),
-      (clear_front name (9 ∷ join_with_byte 9 (size ∷ rest))),
-      (value_at_most size),
-    )
+columns_said text (name ∷ size ∷ rest) entry clear cut e = grind (arith, (join_with_byte-slice_split 9 text), (pieces_are_columns text), (clear_front name (9 ∷ join_with_byte 9 (size ∷ rest))))
 
 line_is_chrom : (text : List ℕ) (entry : Entry) → NoLineFeed text → entry_of text ≡ Ok (Some entry) → IsChrom entry
 unfolding entry_of

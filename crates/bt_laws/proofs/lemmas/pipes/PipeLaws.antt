@@ -1,5 +1,5 @@
 -- The reports whose outputs go on as inputs.
-use Rattle.bt_lines.proofs.Std.{append-nil, append_assoc, ◌≡◌, ℕ, Bool, true, false, List, [], ◌∷◌, ◌++◌, map, filter, Option, Some, None, Ok, refl, sym, ap, ◌∙◌, subst, ◌≢◌, AllByRecursion, AllPairs, ◌+◌, ◌<◌, length, arith, length-append, cases_lt, lt-ltb, ltb-true, filter-append}
+use Rattle.bt_lines.proofs.Std.{append-nil, append_assoc, ◌≡◌, ℕ, Bool, true, false, List, [], ◌∷◌, ◌++◌, map, filter, Option, Some, None, Ok, refl, sym, ◌∙◌, subst, ◌≢◌, AllByRecursion, AllPairs, ◌+◌, ◌<◌, arith, length-append, cases_lt, lt-ltb, ltb-true, filter-append}
 use Rattle.bt_lines.specs.model.Fault.{FaultValue}
 use Rattle.bt_lines.specs.model.Lines.{Handed}
 use Rattle.bt_lines.specs.declared.fault.Input.TheVariants.{First, Second}
@@ -14,7 +14,7 @@ use Rattle.bt_bed.specs.model.Meeting.{written}
 use Rattle.bt_bed.specs.declared.record.strand.Strand.{Strand}
 use Rattle.bt_bed.proofs.lemmas.Definitions.{non_empty_good, placed_good}
 use Rattle.bt_laws.specs.Runs.{interval_at}
-use Rattle.bt_runs.specs.model.Depth.{coverage, depth_lines, DepthInterval, covers, depth_at, levels_of}
+use Rattle.bt_runs.specs.model.Depth.{coverage, depth_lines, DepthInterval, depth_at, levels_of}
 use Rattle.bt_runs.specs.model.Gaps.{complement, gaps_of}
 use Rattle.bt_runs.specs.model.Merged.{ordered_runs, runs_of}
 use Rattle.bt_runs.specs.calls.MergedRuns.{Bridged}
@@ -27,8 +27,8 @@ use Rattle.bt_sweep.specs.declared.hits.hit_rule.HitRule.{HitRule}
 use Rattle.bt_sweep.specs.declared.output.shape.Shape.{Shape}
 use Rattle.bt_sweep.specs.declared.output.shape.Shape.TheVariants.{Pieces, Whole}
 use Rattle.bt_sweep.proofs.lemmas.definitions.HitLemmas.{faultless_all}
-use Rattle.bt_tool.specs.model.Report.{behaviour_of, entries_in, order_in_use, Inputs, or_empty, chromosomes_of, report_of, report_on}
-use Rattle.bt_tool.specs.model.Written.{Report, report_by, met_within, Written, merge_written}
+use Rattle.bt_tool.specs.model.Report.{behaviour_of, entries_in, order_in_use, Inputs, or_empty, chromosomes_of, report_of}
+use Rattle.bt_tool.specs.model.Written.{report_by, met_within, Written, merge_written}
 use Rattle.bt_tool.specs.declared.planning.plan_type.Command.{Command}
 use Rattle.bt_tool.specs.declared.planning.plan_type.Command.TheVariants.{Complement, Coverage, Intersect, Merge, Subtract}
 use Rattle.bt_laws.specs.WholeRuns.{RunsWithoutFault, first_records, second_records}
@@ -36,8 +36,7 @@ use Rattle.bt_laws.specs.Pipes.{complement_is_input, cut_intersect_is_input, cut
 use Rattle.bt_runs.proofs.lemmas.Lists.{EachPair, pairs_all, pairs_each}
 use Rattle.bt_laws.proofs.lemmas.pipes.RunsBack.{coverage_back, depths_in_order, gaps_back, gaps_in_order, intervals_back, merge_in_order, merge_back, runs_back, strands_written}
 use Rattle.bt_laws.proofs.lemmas.pipes.LinesBack.{IsChrom, IsSaid, genome_chroms, good_are_said}
-use Rattle.bt_laws.proofs.lemmas.pipes.SweepBack.{cut_back, kept_back, pieces_back}
-use Rattle.bt_laws.proofs.lemmas.pipes.SweepRead.{all_read, cut_stay, places_stay, records_stay, strands_stay}
+use Rattle.bt_laws.proofs.lemmas.pipes.SweepBack.{cut_back, kept_back, pieces_back, all_read, cut_stay, places_stay, records_stay, strands_stay}
 use Rattle.bt_laws.proofs.lemmas.parts.PartTexts.{order_total}
 use Rattle.bt_laws.proofs.lemmas.pipes.Placing.{pairs_filter, pairs_from_map, pairs_map}
 use Rattle.bt_runs.proofs.lemmas.merge.Bridging.{are_runs, bridged_here, is_covered-Decides, only_runs}
@@ -57,14 +56,14 @@ whole_by written members fault e = grind arith
 
 pub report_there : (command : Command) (inputs : Inputs) (chromosomes : Option (List Entry)) → chromosomes_of inputs.genome ≡ Ok chromosomes → report_of command inputs ≡ (behaviour_of command chromosomes).report inputs.first inputs.second
 unfolding report_of
-report_there command inputs chromosomes genome = ap (λ found. report_on command found inputs.first inputs.second) genome
+report_there command inputs chromosomes genome = grind arith
 
 module _ (command : Command) (inputs : Inputs) (chromosomes : Option (List Entry)) (well : RunsWithoutFault command inputs chromosomes) where
   pub well_there : ((behaviour_of command chromosomes).report inputs.first inputs.second).fault ≡ None
-  well_there = ap (λ (r : Report). r.fault) (sym (report_there command inputs chromosomes well.genome)) ∙ well.faultless
+  well_there = grind (arith, report_there)
 
   pub output_is : (report_of command inputs).output ≡ ((behaviour_of command chromosomes).report inputs.first inputs.second).output
-  output_is = ap (λ (r : Report). r.output) (report_there command inputs chromosomes well.genome)
+  output_is = grind (arith, report_there)
 
 -- ---- merge
 
@@ -142,7 +141,7 @@ genomecov_input zeros strand inputs chromosomes well =
 
 -- a limit without a fault of its own changes nothing
 cut_whole : (too : List Feature → Bool) (past members : List (Member Feature)) (fault : Option FaultValue) → (cut_behind too past members fault).fault ≡ None → cut_behind too past members fault ≡ record { members = past ++ members; fault = fault }
-cut_whole too past [] fault e = ap (λ ms. record { members = ms; fault = fault }) (sym (append-nil past))
+cut_whole too past [] fault e = grind (arith, append-nil)
 cut_whole too past (m ∷ more) fault e = grind (arith, append_assoc, (cut_whole too (past ++ m ∷ []) more fault))
 
 pub limit_whole : (order : Order) (limit : Option ℕ) (first : List Feature) (second : Good Feature) → (limited order limit first second).fault ≡ None → limited order limit first second ≡ second
@@ -161,16 +160,16 @@ module _ (shape : Shape) (rule : HitRule) (chromosomes : Option (List Entry)) (i
   seconds = second_records chromosomes inputs
 
   said : AllByRecursion IsSaid firsts
-  said = good_are_said First (order_in_use chromosomes) inputs.first
+  said = grind (arith, good_are_said)
 
   said_second : AllByRecursion IsSaid seconds
-  said_second = good_are_said Second (order_in_use chromosomes) (or_empty inputs.second)
+  said_second = grind (arith, good_are_said)
 
   first_placed : ArePlaced (order_in_use chromosomes) (intervals_of firsts)
-  first_placed = placed_good First (order_in_use chromosomes) inputs.first (order_total chromosomes)
+  first_placed = grind (arith, placed_good, order_total)
 
   second_placed : ArePlaced (order_in_use chromosomes) (intervals_of seconds)
-  second_placed = placed_good Second (order_in_use chromosomes) (or_empty inputs.second) (order_total chromosomes)
+  second_placed = grind (arith, placed_good, order_total)
 
   kept_input : begins_with_a shape ≡ true → IsInput (order_in_use chromosomes) (intersect shape rule firsts seconds) (records_written shape rule firsts seconds)
   kept_input begins = grind (arith, (all_read shape rule firsts seconds), (kept_back (order_in_use chromosomes) (order_total chromosomes) shape rule firsts seconds said said_second first_placed begins))
@@ -202,7 +201,7 @@ pub kept_records : kept_records_stay
 kept_records shape rule inputs chromosomes alone plain = records_stay shape rule (first_records chromosomes inputs) (second_records chromosomes inputs) alone (said shape rule chromosomes inputs) plain
 
 pub kept_places : kept_places_stay
-kept_places shape rule inputs chromosomes begins = places_stay shape rule (first_records chromosomes inputs) (second_records chromosomes inputs) begins
+kept_places shape rule inputs chromosomes begins = grind (arith, places_stay)
 
 pub kept_strands : kept_strands_stay
 kept_strands shape rule inputs chromosomes begins alone unsigned =
@@ -230,7 +229,7 @@ subtract_input rule held inputs chromosomes well apart =
 
 -- the records that are read of intervals, some of them as headers
 of_three : (rs : List Interval) → EachPair AreDisjoint rs → EachPair (λ (r s : Feature). AreDisjoint (interval_of r) (interval_of s)) (map three_columns rs)
-of_three rs h = pairs_map (λ (r s : Feature). AreDisjoint (interval_of r) (interval_of s)) three_columns rs h
+of_three rs h = grind (arith, pairs_map)
 
 of_four : (rs : List DepthInterval) → EachPair AreDisjoint (map interval_at rs) → EachPair (λ (r s : Feature). AreDisjoint (interval_of r) (interval_of s)) (map four_columns rs)
 of_four rs h = grind (arith, pairs_map, (pairs_from_map AreDisjoint interval_at rs h))
@@ -282,7 +281,7 @@ runs_cover spans = record {
 -- ---- depths
 
 pub depth_both : (xs ys : List Span) (p : ℕ) → depth_at (xs ++ ys) p ≡ depth_at xs p + depth_at ys p
-depth_both xs ys p = ap length (filter-append (covers p) xs ys) ∙ length-append (filter (covers p) xs) (filter (covers p) ys)
+depth_both xs ys p = grind (arith, filter-append, length-append)
 
 pub covered_some : (xs : List Span) (p : ℕ) → IsCovered xs p → 0 < depth_at xs p
 covered_some xs p c = ltb-true 0 (depth_at xs p) (sym (covered_depth xs p) ∙ (is_covered-Decides xs p).1 c)

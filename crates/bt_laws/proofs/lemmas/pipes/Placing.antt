@@ -1,5 +1,5 @@
 -- Intervals chromosome by chromosome: they are in order, and those of different chromosomes have nothing in common.
-use Rattle.bt_lines.proofs.Std.{◌≡◌, ℕ, ◌+◌, ◌<◌, ◌≤◌, Bool, false, List, [], ◌∷◌, ◌++◌, map, filter, refl, inl, inr, arith, IsTrue, flat_map, bytes_eq, AllByRecursion, or_parts}
+use Rattle.bt_lines.proofs.Std.{◌≡◌, ℕ, ◌+◌, ◌<◌, ◌≤◌, Bool, false, List, [], ◌∷◌, ◌++◌, map, filter, refl, inl, arith, IsTrue, flat_map, bytes_eq, AllByRecursion, or_parts}
 use Rattle.std.specs.declared.cmp.Ordering.TheVariants.{Less}
 use Rattle.bt_bed.specs.model.Feature.{Interval, Span, placed_on}
 use Rattle.bt_bed.specs.calls.Stretches.{AreApartFrom}
@@ -13,13 +13,9 @@ use Rattle.bt_runs.proofs.lemmas.Lists.{EachPair, all_any, all_both, all_filter,
 
 -- ---- pairs
 
-all_with : {A : Type 0} (P : A → Type 0) (R S : A → A → Type 0) (x : A) (ys : List A) → ((y : A) → P y → R x y → S x y) → AllByRecursion P ys → AllByRecursion (R x) ys → AllByRecursion (S x) ys
-all_with P R S x [] f qs h = tt
-all_with P R S x (y ∷ ys) f qs h = (f y qs.0 h.0, all_with P R S x ys f qs.1 h.1)
-
 pub pairs_so : {A : Type 0} (P : A → Type 0) (R S : A → A → Type 0) (xs : List A) → ((x y : A) → P x → P y → R x y → S x y) → AllByRecursion P xs → EachPair R xs → EachPair S xs
 pairs_so P R S [] f ps h = tt
-pairs_so P R S (x ∷ xs) f ps h = (all_with P R S x xs (λ y q r. f x y ps.0 q r) ps.1 h.0, pairs_so P R S xs f ps.1 h.1)
+pairs_so P R S (x ∷ xs) f ps h = (all_zip P (R x) (S x) xs (λ y q r. f x y ps.0 q r) ps.1 h.0, pairs_so P R S xs f ps.1 h.1)
 
 pub pairs_weaker : {A : Type 0} (R S : A → A → Type 0) (xs : List A) → ((x y : A) → R x y → S x y) → EachPair R xs → EachPair S xs
 pairs_weaker R S xs f h = pairs_so (λ x. Unit {0}) R S xs (λ x y p q r. f x y r) (all_any (λ x. Unit {0}) xs (λ x. tt)) h
@@ -143,10 +139,7 @@ module _ (order : Order) (total : IsTotal order) (R : Interval → Interval → 
   placed_spans k = map (placed_on (name k)) (spans k)
 
   on_one : (k : K) → AreSpread gap 0 (spans k) → EachPair Follows (placed_spans k)
-  on_one k spread =
-      pairs_map Follows (placed_on (name k)) (spans k)
-      (pairs_weaker (IsBehind gap) (λ s t. Follows (placed_on (name k) s) (placed_on (name k) t)) (spans k)
-      (λ s t b. (inr (refl, omega (arith, b.0, b.1)), far (placed_on (name k) s) (placed_on (name k) t) (λ same. b.1))) (spread_pairs gap 0 (spans k) spread))
+  on_one k spread = grind (arith, pairs_map, pairs_weaker, spread_pairs)
 
   abbrev Cross : K → K → Type 0
   Cross j k = AllByRecursion (λ r. AllByRecursion (Follows r) (placed_spans k)) (placed_spans j)
@@ -161,7 +154,7 @@ module _ (order : Order) (total : IsTotal order) (R : Interval → Interval → 
   IsKnown r = IsTrue (order.knows r.chrom)
 
   known_on : (k : K) → IsTrue (order.knows (name k)) → AllByRecursion IsKnown (placed_spans k)
-  known_on k known = all_map IsKnown (placed_on (name k)) (spans k) (all_any _ (spans k) (λ s. known))
+  known_on k known = grind (arith, all_map, all_any)
 
   pub spans_in_order : (ks : List K) → AllByRecursion (λ k. IsTrue (order.knows (name k))) ks → EachPair (λ j k. Earlier order (name j) (name k)) ks
       → AllByRecursion (λ k. AreSpread gap 0 (spans k)) ks → AreInOrder order R (flat_map placed_spans ks)

@@ -1,5 +1,5 @@
 -- What merge, complement and genomecov write is an input of the next command.
-use Rattle.bt_lines.proofs.Std.{◌≡◌, ℕ, ◌+◌, ◌-◌, ◌<◌, ◌≤◌, Bool, true, false, not, List, [], ◌∷◌, ◌++◌, map, filter, refl, sym, ap, subst, inl, inr, arith, eqb, append-nil, decimal, Option, append_assoc, IsTrue, add-zero, codes, flat_map, AllByRecursion, map-id, slice_split_none}
+use Rattle.bt_lines.proofs.Std.{◌≡◌, ℕ, ◌+◌, ◌-◌, ◌<◌, ◌≤◌, Bool, true, false, not, List, [], ◌∷◌, ◌++◌, map, filter, refl, sym, ap, subst, inl, inr, arith, eqb, append-nil, decimal, Option, append_assoc, IsTrue, codes, flat_map, AllByRecursion, map-id, slice_split_none}
 use Rattle.bt_lines.specs.calls.Line.{NoLineFeed}
 use Rattle.bt_bed.specs.model.Feature.{Feature, intervals_of, Interval, Span, placed_on, spans_on}
 use Rattle.bt_bed.specs.model.Positions.{stretches_from}
@@ -24,7 +24,7 @@ use Rattle.bt_bed.specs.model.Genome.{Entry, genome_names}
 use Rattle.bt_bed.specs.inside.RankTotal.{ranks_total}
 use Rattle.bt_bed.specs.model.Levels.{AreDisjointFrom, HasValue, Level}
 use Rattle.bt_laws.specs.Runs.{interval_at}
-use Rattle.bt_runs.specs.model.Depth.{DepthInterval, coverage, depth_line, depth_lines, depth_of, depth_on, depths_on, counted_on, levels_of}
+use Rattle.bt_runs.specs.model.Depth.{DepthInterval, coverage, depth_line, depth_lines, depth_of, depth_on, counted_on, levels_of}
 use Rattle.bt_runs.specs.model.Gaps.{complement, gaps_of, gaps_on, is_asked}
 use Rattle.bt_laws.proofs.lemmas.single.LevelLemmas.{are_levels}
 use Rattle.bt_laws.proofs.lemmas.single.Records.{number_column}
@@ -45,7 +45,7 @@ alone_columns : (r : Interval) → IsWritten r → IsColumns (alone r)
 alone_columns r is = grind (arith, eqb)
 
 alone_line : (r : Interval) → interval_line r ≡ text_of_columns (alone r) ++ 10 ∷ []
-alone_line r = ap (λ l. l ++ 10 ∷ []) (sym (append-nil (r.chrom ++ codes "\t" ++ decimal r.start ++ codes "\t" ++ decimal r.stop)))
+alone_line r = grind (arith, append-nil)
 
 module _ (order : Order) (total : IsTotal order) where
   pub intervals_back : (rs : List Interval) → AllByRecursion IsWritten rs → ArePlaced order rs → IsInput order (interval_lines rs) (filter is_no_header (map three_columns rs))
@@ -86,11 +86,7 @@ record AreWithin (gap n : ℕ) (spans : List Span) : Type 0 where
   within : AllByRecursion (λ (s : Span). (s.start < s.stop) × (s.stop ≤ n)) spans
 
 scanned : (test : ℕ → Bool) (n : ℕ) → AreWithin 1 n (stretches_from test 0 n)
-scanned test n =
-    let found = scan_finds test n in
-    let spans = stretches_from test 0 n in
-    let spread = apart_spread 0 spans found.apart in
-    record { spread = spread; within = stops_within 1 0 n spans spread (λ p c. (found.within p c).0) }
+scanned test n = grind (arith, apart_spread, stops_within, (scan_finds test n))
 
 -- levels without their values
 abbrev pub level_span : Level → Span
@@ -99,21 +95,14 @@ level_span l = record { start = l.start; stop = l.stop }
 pub covered_value : (ls : List Level) (p : ℕ) → IsCovered (map level_span ls) p → (v : ℕ) × HasValue ls p v
 covered_value [] p c = absurd c
 covered_value (l ∷ ls) p (inl here) = (l.value, inl (here.0, here.1, refl))
-covered_value (l ∷ ls) p (inr there) = let more = covered_value ls p there in (more.0, inr more.1)
+covered_value (l ∷ ls) p (inr there) = grind (arith, (covered_value ls p there))
 
 levels_spread : (first : ℕ) (ls : List Level) → AreDisjointFrom first ls → AreSpread 0 first (map level_span ls)
 levels_spread first [] h = tt
-levels_spread first (l ∷ ls) h = (h.0, h.1, subst (λ n. AreSpread 0 n (map level_span ls)) (sym (add-zero l.stop)) (levels_spread l.stop ls h.3))
+levels_spread first (l ∷ ls) h = grind (arith, (levels_spread l.stop ls h.3))
 
 levels_within : (value : ℕ → Option ℕ) (n : ℕ) → AreWithin 0 n (map level_span (levels_of value n))
-levels_within value n =
-    let are = are_levels value n in
-    let levels = levels_of value n in
-    let spread = levels_spread 0 levels are.disjoint in
-    record {
-      spread = spread;
-      within = stops_within 0 0 n (map level_span levels) spread (λ p c. let has = covered_value levels p c in (are.within p has.0 has.1).0);
-    }
+levels_within value n = grind (arith, levels_spread, stops_within, covered_value, (are_levels value n))
 
 far_separate : (r s : Interval) → (r.chrom ≡ s.chrom → r.stop + 1 ≤ s.start) → AreSeparate r s
 far_separate r s far same = omega (arith, far same)
@@ -179,7 +168,7 @@ module _ (order : Order) (total : IsTotal order) where
 
     names_earlier : EachPair (Earlier order) names
     unfolding names
-    names_earlier = ascending_pairs order total names known_in_order (names_in_order order (chromosomes (counted strand records)) total names_known (distinct_chromosomes (counted strand records))).0
+    names_earlier = grind (arith, ascending_pairs, known_in_order, names_in_order, names_known, distinct_chromosomes)
 
     pub merge_in_order : AreInOrder order AreSeparate (ordered_runs order gap strand records)
     unfolding ordered_runs merged names
@@ -188,13 +177,10 @@ module _ (order : Order) (total : IsTotal order) where
         (λ name. runs_of gap (spans_on name (counted strand records))) names known_in_order names_earlier
         (all_any _ names (λ name. (runs_within gap (spans_on name (counted strand records))).spread))
 
-    pub merge_runs : AllByRecursion IsRun (ordered_runs order gap strand records)
-    unfolding ordered_runs
-    merge_runs = grind (arith, merged_written, ordered_all, (named_all IsSaidName (counted strand records) (counted_names strand records said)), (counted_stops strand records said))
-
     -- what merge writes
     pub merge_back : IsInput order (interval_lines (ordered_runs order gap strand records)) (map three_columns (ordered_runs order gap strand records))
-    merge_back = runs_back (ordered_runs order gap strand records) merge_runs merge_in_order.placed
+    unfolding ordered_runs
+    merge_back = grind (arith, runs_back, merged_written, ordered_all, (named_all IsSaidName (counted strand records) (counted_names strand records said)), (counted_stops strand records said), merge_in_order)
 
   -- each strand separately
   strand_written : (gap : ℕ) (records : List Feature) → AllByRecursion IsSaid records → (strand : Strand) → AllByRecursion (λ (item : StrandRun). IsRun item.run) (runs_of_strand gap records strand)
@@ -209,7 +195,7 @@ module _ (order : Order) (total : IsTotal order) where
 
 pub places_on : (name : List ℕ) (ls : List Level) → map interval_at (map (depth_on name) ls) ≡ map (placed_on name) (map level_span ls)
 places_on name [] = refl
-places_on name (l ∷ ls) = ap (λ rs. placed_on name (level_span l) ∷ rs) (places_on name ls)
+places_on name (l ∷ ls) = grind (arith, (places_on name ls))
 
 gaps_within : (size : ℕ) (spans : List Span) → AreWithin 1 size (gaps_of size spans)
 unfolding gaps_of
@@ -254,7 +240,7 @@ module _ (entries : List Entry) (chroms : AllByRecursion IsChrom entries) (disti
         chroms))
 
     pub gaps_back : IsInput file_order (interval_lines (complement limit entries records)) (filter is_no_header (map three_columns (complement limit entries records)))
-    gaps_back = intervals_back file_order file_total (complement limit entries records) gaps_written gaps_in_order.placed
+    gaps_back = grind (arith, intervals_back, file_total, gaps_written, gaps_in_order)
 
   module _ (zeros : Bool) (strand : Option Strand) (records : List Feature) where
     abbrev depths_at : Entry → ℕ → Option ℕ
@@ -268,7 +254,7 @@ module _ (entries : List Entry) (chroms : AllByRecursion IsChrom entries) (disti
 
     places_of_all : map interval_at (coverage zeros strand entries records) ≡ flat_map depth_places entries
     unfolding coverage
-    places_of_all = map_flat interval_at (depths_on zeros strand records) depth_places entries (λ e. places_on e.name (levels_of (depths_at e) e.length))
+    places_of_all = grind (arith, map_flat, places_on)
 
     pub depths_in_order : AreInOrder file_order AreDisjoint (map interval_at (coverage zeros strand entries records))
     depths_in_order = subst (AreInOrder file_order AreDisjoint) (sym places_of_all)

@@ -1,24 +1,30 @@
--- What intersect and subtract write is an input of the next command.
-use Rattle.bt_lines.proofs.Std.{◌≡◌, ℕ, ◌+◌, ◌-◌, ◌<◌, ◌≤◌, true, false, not, List, [], ◌∷◌, ◌++◌, map, filter, length, max, min, refl, sym, ap, ap₂, ◌∙◌, subst, inl, inr, arith, append_assoc, append-nil, decimal, IsTrue, flat_map, AllByRecursion, bytes_decides, flat_map-append}
+-- What intersect and subtract write is an input of the next command, and what is read of it.
+use Rattle.bt_lines.proofs.Std.{◌≡◌, ℕ, ◌+◌, ◌-◌, ◌<◌, ◌≤◌, true, false, not, List, [], ◌∷◌, ◌++◌, map, filter, length, max, min, refl, sym, ap, ap₂, ◌∙◌, subst, inl, inr, arith, append_assoc, append-nil, decimal, IsTrue, flat_map, AllByRecursion, bytes_decides, flat_map-append, rules, eqb, replicate, ends_with_byte, strip_last, map-append, slice_split_at}
 use Rattle.bt_lines.specs.calls.Line.{NoLineFeed}
 use Rattle.bt_bed.specs.model.Feature.{Feature, interval_of, intervals_of, Interval, Span}
 use Rattle.bt_bed.specs.calls.Stretches.{AreApartFrom, IsCovered}
-use Rattle.bt_bed.specs.model.BedLine.{is_header, bed_text, cut_to}
-use Rattle.bt_bed.specs.calls.Features.{is_kept}
+use Rattle.bt_bed.specs.model.BedLine.{is_header, bed_text, cut_to, kept_columns, strand_named}
 use Rattle.bt_bed.specs.calls.Orders.{ArePlaced, IsTotal}
 use Rattle.bt_bed.specs.model.Order.{Order}
 use Rattle.bt_sweep.specs.model.Hits.{hits, hits_among, shared_bases}
-use Rattle.bt_sweep.specs.model.Lines.{cut, hit_line, intersect, lines_for, lines_of, piece_line, pieces}
+use Rattle.bt_sweep.specs.model.Lines.{cut, hit_line, intersect, lines_for, lines_of, pieces}
 use Rattle.bt_sweep.specs.calls.LineLaws.{IsLeft}
 use Rattle.bt_sweep.specs.declared.hits.hit_rule.HitRule.{HitRule}
 use Rattle.bt_sweep.specs.declared.output.shape.Shape.{Shape}
 use Rattle.bt_sweep.specs.declared.output.shape.Shape.TheVariants.{Count, Cut, CutAndB, Missing, Once, OrigA, OrigBoth, Overlap, Pieces, Whole}
 use Rattle.bt_sweep.proofs.lemmas.definitions.PieceLemmas.{are_pieces}
 use Rattle.bt_sweep.proofs.lemmas.definitions.HitLemmas.{hit_overlaps, overlap_parts}
-use Rattle.bt_laws.specs.Pipes.{begins_with_a, AreDisjoint, IsInput, is_no_header}
-use Rattle.bt_runs.proofs.lemmas.Lists.{EachPair, all_any, all_flat_map, all_map, all_so, filter_all, all_zip, map_map, all_unmap}
-use Rattle.bt_laws.proofs.lemmas.pipes.LinesBack.{clear_both, clear_number, Columns, IsColumns, lines_back, record_back, text_of_columns, placed_known, IsSaid, tail_clear}
+use Rattle.bt_laws.specs.Pipes.{begins_with_a, AreDisjoint, IsInput, is_no_header, EndsPlain, KeepsStrand, TakesNoStrand, copies_written, is_a_alone, line_count, read_alone, read_before, records_for, records_written}
+use Rattle.bt_runs.proofs.lemmas.Lists.{EachPair, all_any, all_flat_map, all_map, all_so, filter_all, all_zip, map_map, all_unmap, flat_map_same, map_flat}
+use Rattle.bt_laws.proofs.lemmas.pipes.LinesBack.{clear_both, clear_number, Columns, IsColumns, lines_back, record_back, text_of_columns, placed_known, IsSaid, tail_clear, strip_number, kept_by, name_first, record_with, strip_both, strip_columns}
 use Rattle.bt_laws.proofs.lemmas.pipes.Placing.{IsBehind, UpTo, apart_spread, pairs_any, pairs_filter, pairs_flat, pairs_from_map, pairs_map, pairs_placed, pairs_so, pairs_weaker, placed_pairs, spread_pairs}
+use Rattle.bt_lines.specs.model.Lines.{pieces as columns_of}
+use Rattle.bt_lines.proofs.lemmas.reader.lines.TextLemmas.{IsColumn}
+use Rattle.bt_bed.specs.calls.Features.{columns_in, is_kept}
+use Rattle.bt_bed.specs.declared.record.strand.Strand.TheVariants.{Dot}
+use Rattle.bt_bed.proofs.lemmas.parse.FeatureLemmas.{kept_is_cut, pieces_are_columns}
+use Rattle.bt_bed.proofs.lemmas.read.ColumnLemmas.{kept_again}
+use Rattle.bt_laws.proofs.lemmas.single.Records.{IsDigit, decimal_digits, number_column, columns_text, line_columns}
 
 -- ---- the lines as columns
 
@@ -67,17 +73,17 @@ alone_text line = sym (append-nil (line_text line))
 
 lines_as : (shape : Shape) (a : Feature) (found : List Feature) → lines_of shape a found ≡ flat_map line_text (columns_for shape a found)
 unfolding columns_for hit_columns piece_columns
-lines_as Cut a found = map_lines (hit_line Cut a) (hit_columns Cut a) found (λ b. refl)
-lines_as OrigA a found = map_lines (hit_line OrigA a) (hit_columns OrigA a) found (λ b. refl)
-lines_as CutAndB a found = map_lines (hit_line CutAndB a) (hit_columns CutAndB a) found (λ b. simp append_assoc)
-lines_as OrigBoth a found = map_lines (hit_line OrigBoth a) (hit_columns OrigBoth a) found (λ b. simp append_assoc)
+lines_as Cut a found = grind (arith, map_lines)
+lines_as OrigA a found = grind (arith, map_lines)
+lines_as CutAndB a found = grind (arith, map_lines, append_assoc)
+lines_as OrigBoth a found = grind (arith, map_lines, append_assoc)
 lines_as Overlap a found = map_lines (hit_line Overlap a) (hit_columns Overlap a) found (λ b. simp append_assoc)
 lines_as Once a [] = refl
 lines_as Once a (b ∷ more) = alone_text (columns_at a a.rest)
 lines_as Missing a [] = alone_text (columns_at a a.rest)
 lines_as Missing a (b ∷ more) = refl
-lines_as Count a found = (simp append_assoc) ∙ alone_text (columns_at a (a.rest ++ 9 ∷ decimal (length found)))
-lines_as Pieces a found = map_lines (piece_line a) (piece_columns a) (pieces a found) (λ p. refl)
+lines_as Count a found = grind (arith, append_assoc)
+lines_as Pieces a found = grind (arith, map_lines)
 lines_as Whole a [] = alone_text (columns_at a a.rest)
 lines_as Whole a (b ∷ more) = refl
 
@@ -96,24 +102,21 @@ module _ (shape : Shape) (rule : HitRule) (second : List Feature) where
 -- ---- each is written so
 
 clear_record : (b : Feature) → IsSaid b → NoLineFeed (bed_text b)
-clear_record b is = tail_clear b.chrom b.start b.stop is.feature.named is.feature.non_empty is.feature.in_range b.rest is.clear_name is.clear_rest
+clear_record b is = grind (arith, tail_clear)
 
 abbrev pub Hit : HitRule → Feature → Feature → Type 0
 Hit rule a b = IsSaid b × (hits rule a b ≡ true)
 
 pub cut_bounds : (rule : HitRule) (a b : Feature) → hits rule a b ≡ true → max a.start b.start < min a.stop b.stop
-cut_bounds rule a b h = omega (arith, (overlap_parts a b (hit_overlaps rule a b h)).1)
+cut_bounds rule a b h = grind (arith, hit_overlaps)
 
 pub same_name : (rule : HitRule) (a b : Feature) → hits rule a b ≡ true → a.chrom ≡ b.chrom
 same_name rule a b h = (bytes_decides a.chrom b.chrom).0 (overlap_parts a b (hit_overlaps rule a b h)).0
 
 module _ (rule : HitRule) (a : Feature) (is : IsSaid a) where
-  cut_columns : (b : Feature) (more : List ℕ) → Hit rule a b → IsTrue (is_kept more) → NoLineFeed more → IsColumns (columns_at (cut a b) more)
-  cut_columns b more hit kept clear = grind (arith, cut_bounds)
-
   hit_is : (shape : Shape) (b : Feature) → Hit rule a b → IsColumns (hit_columns shape a b)
   unfolding hit_columns
-  hit_is shape b hit = grind (arith, cut_columns, clear_both, clear_record, clear_number)
+  hit_is shape b hit = grind (arith, cut_bounds, clear_both, clear_record, clear_number)
 
   hits_are : (shape : Shape) (found : List Feature) → AllByRecursion (Hit rule a) found → AllByRecursion IsColumns (map (hit_columns shape a) found)
   hits_are shape found h = all_map IsColumns (hit_columns shape a) found (all_so (Hit rule a) (λ b. IsColumns (hit_columns shape a b)) found (λ b k. hit_is shape b k) h)
@@ -149,7 +152,7 @@ no_headers : (lines : List Columns) → AllByRecursion (λ (line : Columns). is_
 no_headers lines h = filter_all is_no_header (map record_back lines) (all_map (λ r. is_no_header r ≡ true) record_back lines (all_so (λ (line : Columns). is_header line.at.chrom ≡ false) (λ line. not (is_header line.at.chrom) ≡ true) lines (λ line e. ap not e) h))
 
 pub pairs_of_places : (order : Order) (total : IsTotal order) (as_read : List Feature) → EachPair (UpTo order total) (intervals_of as_read) → EachPair (λ (a b : Feature). UpTo order total (interval_of a) (interval_of b)) as_read
-pairs_of_places order total as_read h = pairs_from_map (UpTo order total) interval_of as_read h
+pairs_of_places order total as_read h = grind (arith, pairs_from_map)
 
 -- the names of all lines are those of records that were read
 part_named : (shape : Shape) (a : Feature) (found : List Feature) → AllByRecursion (λ (line : Columns). line.at.chrom ≡ a.chrom) (columns_for shape a found)
@@ -238,17 +241,7 @@ module _ (order : Order) (total : IsTotal order) where
 
   part_rises : (shape : Shape) (a : Feature) (found : List Feature) → begins_with_a shape ≡ false → EachPair Rise found → EachPair (LineUpTo order total) (columns_for shape a found)
   unfolding columns_for hit_columns piece_columns
-  part_rises Cut a found e h =
-      pairs_map (LineUpTo order total) (hit_columns Cut a) found
-      (pairs_weaker Rise (λ b c. LineUpTo order total (hit_columns Cut a b) (hit_columns Cut a c)) found (λ b c up. inr (refl, omega (arith, up))) h)
-  part_rises CutAndB a found e h =
-      pairs_map (LineUpTo order total) (hit_columns CutAndB a) found
-      (pairs_weaker Rise (λ b c. LineUpTo order total (hit_columns CutAndB a b) (hit_columns CutAndB a c)) found (λ b c up. inr (refl, omega (arith, up))) h)
-  part_rises Pieces a found e h =
-      pairs_map (LineUpTo order total) (piece_columns a) (pieces a found)
-      (pairs_weaker (IsBehind 1) (λ s t. LineUpTo order total (piece_columns a s) (piece_columns a t)) (pieces a found)
-      (λ s t up. inr (refl, omega (arith, up.0, up.1))) (pieces_behind a found))
-  part_rises _ a found e h = cc
+  part_rises shape a found e h = grind (arith, pairs_map, pairs_weaker, (pieces_behind a found))
 
   abbrev FollowsApart : Feature → Feature → Type 0
   FollowsApart a b = UpTo order total (interval_of a) (interval_of b) × AreDisjoint (interval_of a) (interval_of b)
@@ -257,7 +250,7 @@ module _ (order : Order) (total : IsTotal order) where
   cross_up a b k l p1 one two = grind arith
 
   cross_apart : (a b : Feature) (k l : Columns) → FollowsApart a b → IsWithin a k → IsWithin b l → AreDisjoint k.at l.at
-  cross_apart a b k l follows one two same = omega (arith, follows.1 (sym one.same ∙ same ∙ two.same), one.to_stop, two.from_start)
+  cross_apart a b k l follows one two same = grind arith
 
   module _ (shape : Shape) (rule : HitRule) (first second : List Feature) (said : AllByRecursion IsSaid first) (said_second : AllByRecursion IsSaid second) (placed : ArePlaced order (intervals_of first)) (placed_second : ArePlaced order (intervals_of second))
       (apart : EachPair AreDisjoint (intervals_of first)) (cuts : begins_with_a shape ≡ false) where
@@ -300,3 +293,106 @@ module _ (order : Order) (total : IsTotal order) where
       (λ s t up same. omega (arith, up.1)) (pieces_behind a (hits_among rule a second)))))
       (cross_all order total (cut_part Pieces rule first second said said_second placed placed_second apart refl) IsWithin FollowsApart first (all_within Pieces rule first second said said_second placed placed_second apart refl)
       (follow_apart Pieces rule first second said said_second placed placed_second apart refl) (λ k l. AreDisjoint k.at l.at) cross_apart)))
+
+-- The records that the lines of intersect and subtract are read as.
+
+-- ---- the columns of a line, read again
+
+pub all_read : (shape : Shape) (rule : HitRule) (first second : List Feature) → map record_back (all_columns shape rule second first) ≡ records_written shape rule first second
+unfolding all_columns part columns_for hit_columns piece_columns
+all_read shape rule first second = grind (arith, map_flat, map_map, all_any, record_with, strip_both)
+
+-- ---- copies of a record
+
+-- what each of some records has in common with a
+same_copies : {X : Type 0} (h : Feature → X) (f : Feature → Feature) (a : Feature) (found : List Feature) → AllByRecursion (λ b. h (f b) ≡ h a) found → map h (map f found) ≡ map h (replicate (length found) a)
+same_copies h f a [] e = refl
+same_copies h f a (b ∷ found) e = ap₂ (λ x y. x ∷ y) e.0 (same_copies h f a found e.1)
+
+same_all : (f : Feature → Feature) (a : Feature) (found : List Feature) → ((b : Feature) → f b ≡ a) → map f found ≡ replicate (length found) a
+same_all f a [] e = refl
+same_all f a (b ∷ found) e = ap₂ (λ x y. x ∷ y) (e b) (same_all f a found e)
+
+map_flat_same : {X : Type 0} (h : Feature → X) (f g : Feature → List Feature) (first : List Feature) → AllByRecursion (λ a. map h (f a) ≡ map h (g a)) first → map h (flat_map f first) ≡ map h (flat_map g first)
+map_flat_same h f g [] e = refl
+map_flat_same h f g (a ∷ first) e = grind (arith, (map-append h (f a) (flat_map f first)), (map_flat_same h f g first e.1), (map-append h (g a) (flat_map g first)))
+
+-- ---- places
+
+pub places_stay : (shape : Shape) (rule : HitRule) (first second : List Feature) → begins_with_a shape ≡ true → intervals_of (records_written shape rule first second) ≡ intervals_of (copies_written shape rule first second)
+places_stay shape rule first second e = grind (arith, map_flat_same, all_any, same_copies)
+
+-- ---- records alone
+
+alone_same : (a : Feature) → IsSaid a → EndsPlain a → read_alone a ≡ a
+alone_same a is plain = grind arith
+
+pub records_stay : (shape : Shape) (rule : HitRule) (first second : List Feature) → is_a_alone shape ≡ true → AllByRecursion IsSaid first → AllByRecursion EndsPlain first → records_written shape rule first second ≡ copies_written shape rule first second
+records_stay shape rule first second e said plain =
+    flat_map_same (λ a. records_for shape a (hits_among rule a second)) (λ a. replicate (line_count shape (length (hits_among rule a second))) a) first
+    (all_zip IsSaid EndsPlain (λ a. records_for shape a (hits_among rule a second) ≡ replicate (line_count shape (length (hits_among rule a second))) a) first
+    (λ a is ends. grind (arith, same_all)) said plain)
+
+-- ---- a number is a column, and names no strand
+
+digits_unsigned : (ds : List ℕ) → AllByRecursion IsDigit ds → strand_named ds ≡ Dot
+digits_unsigned ds h = search rules
+
+pub number_unsigned : (n : ℕ) → strand_named (decimal n) ≡ Dot
+number_unsigned n = digits_unsigned (decimal n) (decimal_digits n)
+
+-- ---- the columns of a text that goes on
+
+more_from : (x : List ℕ) (xs : List (List ℕ)) → IsColumn x → AllByRecursion IsColumn xs → (text : List ℕ) → columns_of 9 ((x ++ kept_columns xs) ++ 9 ∷ text) ≡ x ∷ (xs ++ columns_of 9 text)
+more_from x [] h hs text = grind (arith, (append-nil x), slice_split_at, eqb)
+more_from x (y ∷ ys) h hs text = grind (arith, (more_from y ys hs.0 hs.1 text), append_assoc, slice_split_at)
+
+more_columns : (xs : List (List ℕ)) → AllByRecursion IsColumn xs → (text : List ℕ) → columns_in (kept_columns xs ++ 9 ∷ text) ≡ xs ++ columns_of 9 text
+more_columns [] h text = refl
+more_columns (x ∷ xs) h text = more_from x xs h.0 h.1 text
+
+columns_both : (rest text : List ℕ) → IsTrue (is_kept rest) → columns_in (rest ++ 9 ∷ text) ≡ columns_in rest ++ columns_of 9 text
+columns_both rest text kept = grind (arith, (kept_again rest kept), more_columns, pieces_are_columns)
+
+-- ---- strands
+
+some_both : (xs ys : List ℕ) → 0 < length xs → 0 < length (xs ++ ys)
+some_both [] ys some = absurd (omega (arith, some))
+some_both (x ∷ xs) ys some = omega arith
+
+module _ (a : Feature) (is : IsSaid a) where
+  after_number : (n : ℕ) → (read_before (decimal n) a).strand ≡ a.strand
+  after_number n = grind (arith, (append-nil (decimal n)), (kept_is_cut (decimal n) [] (number_column n) tt), strip_number, columns_both, number_unsigned)
+
+  module _ (rule : HitRule) (unsigned : length (columns_in a.rest) ≡ 2 → strand_named a.chrom ≡ Dot) (b : Feature) (hit : Hit rule a b) where
+    same_unsigned : length (columns_in a.rest) ≡ 2 → strand_named b.chrom ≡ Dot
+    same_unsigned two = grind (arith, same_name)
+
+    both_strand : (read_before (bed_text b) a).strand ≡ a.strand
+    both_strand =
+        let said = hit.0.feature in
+        let text : strip_last 13 (9 ∷ bed_text b) ≡ 9 ∷ columns_text b.chrom b.start b.stop (strip_last 13 b.rest) =
+        strip_both 13 (9 ∷ []) (bed_text b) (subst (λ l. 0 < length l) (sym (name_first b.chrom b.start b.stop said.named said.non_empty said.in_range b.rest)) (some_both b.chrom (9 ∷ (decimal b.start ++ 9 ∷ (decimal b.stop ++ b.rest))) said.named.some))
+        ∙ ap (λ l. 9 ∷ l) (strip_columns b.chrom b.start b.stop said.named said.non_empty said.in_range b.rest) in
+        grind (arith, columns_both, line_columns, number_unsigned, (kept_by b.chrom b.start b.stop said.named said.non_empty said.in_range b.rest (ends_with_byte 13 b.rest) refl said.kept (strip_last 13 b.rest) refl), same_unsigned)
+
+    overlap_strand : (n : ℕ) → (read_before (bed_text b ++ 9 ∷ decimal n) a).strand ≡ a.strand
+    overlap_strand n = grind (arith, (strip_both 13 (9 ∷ bed_text b) (9 ∷ decimal n) (omega arith)), (strip_number n), append_assoc, columns_both, line_columns, number_unsigned, same_unsigned)
+
+  strands_for : (rule : HitRule) (shape : Shape) (found : List Feature) → begins_with_a shape ≡ true → is_a_alone shape ≡ false → TakesNoStrand shape a → AllByRecursion (Hit rule a) found
+      → map (λ (r : Feature). r.strand) (records_for shape a found) ≡ map (λ (r : Feature). r.strand) (replicate (line_count shape (length found)) a)
+  strands_for rule shape found begins alone plain hits = grind (arith, same_copies, all_so, both_strand, overlap_strand, after_number)
+
+  cut_strands_for : (rule : HitRule) (shape : Shape) (found : List Feature) → begins_with_a shape ≡ false → KeepsStrand shape a → AllByRecursion (Hit rule a) found → AllByRecursion (λ (r : Feature). r.strand ≡ a.strand) (records_for shape a found)
+  cut_strands_for rule Cut found e plain h = grind (arith, all_map, all_any, (alone_same a is plain))
+  cut_strands_for rule CutAndB found e unsigned h = grind (arith, all_map, all_so, both_strand)
+  cut_strands_for rule Pieces found e plain h = grind (arith, all_map, all_any, (alone_same a is plain))
+  cut_strands_for rule _ found e plain h = cc
+
+pub cut_stay : (shape : Shape) (rule : HitRule) (first second : List Feature) → begins_with_a shape ≡ false → AllByRecursion IsSaid first → AllByRecursion IsSaid second → AllByRecursion (KeepsStrand shape) first
+    → AllByRecursion (λ a. AllByRecursion (λ (r : Feature). r.strand ≡ a.strand) (records_for shape a (hits_among rule a second))) first
+cut_stay shape rule first second e said said_second keeps = grind (arith, all_zip, cut_strands_for, all_hits)
+
+pub strands_stay : (shape : Shape) (rule : HitRule) (first second : List Feature) → begins_with_a shape ≡ true → is_a_alone shape ≡ false → AllByRecursion IsSaid first → AllByRecursion IsSaid second → AllByRecursion (TakesNoStrand shape) first
+    → map (λ (r : Feature). r.strand) (records_written shape rule first second) ≡ map (λ (r : Feature). r.strand) (copies_written shape rule first second)
+strands_stay shape rule first second e alone said said_second unsigned = grind (arith, map_flat_same, replicate, length, all_zip, strands_for, all_hits)

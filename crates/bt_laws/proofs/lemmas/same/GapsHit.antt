@@ -28,11 +28,11 @@ use Rattle.bt_laws.specs.Same.{LieWithinLengths, subtract_by_complement}
 use Rattle.bt_laws.specs.Pipes.{AreSeparate, IsInput, is_no_header, three_columns}
 use Rattle.bt_runs.proofs.lemmas.Lists.{EachPair, all_any, all_map, all_so, filter_all, flat_map_same, all_zip}
 use Rattle.bt_laws.proofs.lemmas.pipes.RunsBack.{gaps_back, gaps_in_order}
-use Rattle.bt_laws.proofs.lemmas.pipes.PipeLaws.{chroms_of, intersect_whole, subtract_whole, well_there, report_there}
+use Rattle.bt_laws.proofs.lemmas.pipes.PipeLaws.{chroms_of, subtract_whole, well_there, report_there}
 use Rattle.bt_laws.proofs.lemmas.pipes.Placing.{pairs_filter, pairs_map, pairs_so}
 use Rattle.bt_laws.proofs.lemmas.same.SameRuns.{here_all, none_there}
 use Rattle.bt_laws.proofs.lemmas.pipes.LinesBack.{IsChrom, IsSaid, good_are_said}
-use Rattle.bt_laws.proofs.lemmas.same.SameSweeps.{hit_back, hit_to, met_none, nones, other_input, sweeps_from}
+use Rattle.bt_laws.proofs.lemmas.same.SameSweeps.{hit_back, hit_to, intersect_on, nones, other_input}
 use Rattle.bt_laws.proofs.lemmas.pipes.SweepBack.{Hit, all_hits, cut_bounds, same_name as hit_name}
 
 -- ---- the gaps of one chromosome
@@ -76,12 +76,12 @@ from_pairs first (s ∷ ss) all pairs =
 
 pub cut_covered : (a : Feature) (found : List Feature) (p : ℕ) → IsCovered (map (cut_span a) found) p → IsCovered (spans_of found) p × (a.start ≤ p) × (p < a.stop)
 cut_covered a [] p c = absurd c
-cut_covered a (g ∷ found) p (inl here) = (inl (omega (arith, here.0), omega (arith, here.1)), omega (arith, here.0), omega (arith, here.1))
-cut_covered a (g ∷ found) p (inr there) = let more = cut_covered a found p there in (inr more.0, more.1, more.2)
+cut_covered a (g ∷ found) p (inl here) = grind arith
+cut_covered a (g ∷ found) p (inr there) = grind (arith, (cut_covered a found p there))
 
 pub covered_cut : (a : Feature) (found : List Feature) (p : ℕ) → a.start ≤ p → p < a.stop → IsCovered (spans_of found) p → IsCovered (map (cut_span a) found) p
 covered_cut a [] p from to c = absurd c
-covered_cut a (g ∷ found) p from to (inl here) = inl (omega (arith, here.0, from), omega (arith, here.1, to))
+covered_cut a (g ∷ found) p from to (inl here) = grind arith
 covered_cut a (g ∷ found) p from to (inr there) = inr (covered_cut a found p from to there)
 
 module _ (a : Feature) (bs gs : List Feature) (size : ℕ) (within : a.stop ≤ size) (said : AllByRecursion IsSaid gs) (apart : EachPair (λ g h. AreSeparate (interval_of g) (interval_of h)) gs)
@@ -143,10 +143,9 @@ module _ (inputs : Inputs) (entries : List Entry) (genome : chromosomes_of input
 
   pub by_gaps : (bed_good First order inputs.first).fault ≡ None → LieWithinLengths entries (first_records (Some entries) inputs)
       → RunWrites (Intersect Cut any_overlap None) (with_second_input (Complement false) inputs) (intersect Pieces any_overlap (first_records (Some entries) inputs) seconds)
-  by_gaps first_none within = sweeps_from (Intersect Cut any_overlap None) (with_second_input (Complement false) inputs) (Some entries) (intersect Pieces any_overlap (first_records (Some entries) inputs) seconds) genome
-      (met_none order Cut any_overlap (bed_good First order inputs.first) (bed_good Second order (whole_text (of_second (Complement false) inputs))) first_none (second_input.faultless Second))
-      (λ well. intersect_whole Cut any_overlap None (with_second_input (Complement false) inputs) (Some entries) well ∙ ap (intersect Cut any_overlap (first_records (Some entries) inputs)) (second_input.records_are Second)
-      ∙ all_lines (first_records (Some entries) inputs) (good_are_said First order inputs.first) within)
+  by_gaps first_none within =
+      subst (RunWrites (Intersect Cut any_overlap None) (with_second_input (Complement false) inputs)) (all_lines (first_records (Some entries) inputs) (good_are_said First order inputs.first) within)
+      (intersect_on (Complement false) inputs (Some entries) gap_records Cut any_overlap genome second_input first_none)
 
 pub subtract_gaps : subtract_by_complement
-subtract_gaps held inputs entries well within = grind (arith, (nones Pieces held inputs (Some entries) (well_there (Subtract false any_overlap held) inputs (Some entries) well)), (well_there (Subtract false any_overlap held) inputs (Some entries) well), (subtract_whole false any_overlap held inputs (Some entries) well), by_gaps)
+subtract_gaps held inputs entries well within = grind (arith, (nones Pieces any_overlap held inputs (Some entries) (well_there (Subtract false any_overlap held) inputs (Some entries) well)), (subtract_whole false any_overlap held inputs (Some entries) well), by_gaps)

@@ -1,11 +1,23 @@
--- Gaps of gaps, and merged depths.
-use Rattle.bt_lines.proofs.Std.{◌≡◌, ℕ, ◌+◌, ◌<◌, ◌≤◌, true, false, cond, List, [], ◌∷◌, map, filter, min, Some, None, refl, sym, ap, ◌∙◌, subst, inl, inr, arith, flat_map, nat_lt, AllByRecursion, cases_Bool, cases_lt, le-ltb, lt-ltb, flat_map-append, rules}
+-- Intervals of depth 0 and the others, gaps of gaps, and merged depths.
+use Rattle.bt_lines.proofs.Std.{◌≡◌, ℕ, ◌<◌, Bool, true, false, cond, List, [], ◌∷◌, map, filter, Option, Some, None, refl, sym, ap, ◌∙◌, arith, eqb, flat_map, nat_lt, lt-ltb, ltb-true, filter-append, ◌+◌, ◌≤◌, min, subst, inl, inr, AllByRecursion, cases_Bool, cases_lt, le-ltb, flat_map-append, rules}
 use Rattle.bt_lines.specs.declared.fault.Input.TheVariants.{First}
-use Rattle.bt_bed.specs.model.Feature.{Feature, intervals_of, Interval, Span, placed_on, spans_on}
-use Rattle.bt_bed.specs.calls.Stretches.{AreApartFrom, IsCovered}
-use Rattle.bt_bed.specs.model.BedLine.{is_header, interval_lines}
+use Rattle.bt_bed.specs.model.Feature.{Feature, Span, intervals_of, Interval, placed_on, spans_on}
 use Rattle.bt_bed.specs.model.Genome.{Entry, genome_names}
 use Rattle.bt_bed.specs.model.Good.{items_in, bed_good}
+use Rattle.bt_bed.specs.declared.record.strand.Strand.{Strand}
+use Rattle.bt_bed.specs.model.Levels.{HasValue, Level}
+use Rattle.bt_laws.specs.Runs.{interval_at}
+use Rattle.bt_runs.specs.model.Depth.{DepthInterval, counted_on, coverage, depth_lines, depth_of, depth_on, depths_on, levels_of, depth_at}
+use Rattle.bt_laws.proofs.lemmas.single.LevelLemmas.{gaps_depth_0, are_levels, only_levels, some_value, value_some, some_disjoint}
+use Rattle.bt_tool.specs.model.Report.{entries_in, order_in_use, report_of}
+use Rattle.bt_tool.specs.model.Written.{complement_written, coverage_written, merge_written}
+use Rattle.bt_tool.specs.declared.planning.plan_type.Command.TheVariants.{Complement, Coverage, Merge}
+use Rattle.bt_laws.specs.WholeRuns.{first_records}
+use Rattle.bt_laws.specs.Same.{bg_is_bga_above_0, depth_0_is_complement, without_depth, complement_of_complement, cut_at_length, merge_of_genomecov, LieWithinLengths}
+use Rattle.bt_laws.proofs.lemmas.pipes.PipeLaws.{complement_whole, genomecov_whole, runs_cover, SameCover, covered_some, some_covered, chroms_of, merge_whole}
+use Rattle.bt_laws.proofs.lemmas.same.SameRuns.{fault_as, told_same, CoversOn, alike_merged, all_counted, runs_on_output, some_covers}
+use Rattle.bt_bed.specs.calls.Stretches.{AreApartFrom, IsCovered}
+use Rattle.bt_bed.specs.model.BedLine.{is_header, interval_lines}
 use Rattle.bt_bed.specs.calls.Orders.{ArePlaced, AreDistinct}
 use Rattle.bt_bed.specs.model.Order.{Order, is_among, rank_order}
 use Rattle.bt_bed.proofs.lemmas.Definitions.{placed_good}
@@ -17,26 +29,76 @@ use Rattle.bt_runs.specs.declared.merge.merge_strand.MergeStrand.TheVariants.{Al
 use Rattle.bt_runs.proofs.lemmas.merge.Bridging.{are_runs, is_covered-Decides}
 use Rattle.bt_runs.proofs.lemmas.complement.Walks.{are_gaps, only_gaps}
 use Rattle.bt_laws.proofs.lemmas.single.StrandOrder.{file_ordered}
-use Rattle.bt_tool.specs.model.Report.{order_in_use, report_of}
-use Rattle.bt_tool.specs.model.Written.{complement_written, merge_written, coverage_written}
-use Rattle.bt_tool.specs.declared.planning.plan_type.Command.TheVariants.{Complement, Merge, Coverage}
-use Rattle.bt_laws.specs.Same.{complement_of_complement, cut_at_length, merge_of_genomecov, LieWithinLengths}
-use Rattle.bt_laws.specs.WholeRuns.{first_records, piped}
 use Rattle.bt_laws.specs.Pipes.{IsInput, is_no_header, three_columns, four_columns}
-use Rattle.bt_laws.proofs.lemmas.pipes.PipeLaws.{runs_cover, SameCover, covered_some, some_covered, chroms_of, complement_whole, merge_whole, genomecov_whole}
 use Rattle.bt_laws.proofs.lemmas.pipes.RunsBack.{covered_value, coverage_back, gaps_back, level_span, places_on}
 use Rattle.bt_laws.proofs.lemmas.same.GapsHit.{complement_spans, unhidden, on_entry, spans_there}
 use Rattle.bt_runs.proofs.lemmas.Lists.{all_any, filter_all, flat_map_same, all_zip, map_flat, some_each, some_out}
-use Rattle.bt_laws.proofs.lemmas.same.SameRuns.{CoversOn, alike_merged, all_counted, complement_on, fault_as, merge_on, some_covers, told_same, writes_is}
 use Rattle.bt_laws.proofs.lemmas.parts.PartTexts.{order_total}
 use Rattle.bt_lines.specs.model.Lines.{whole_text}
-use Rattle.bt_bed.specs.model.Levels.{HasValue, Level}
-use Rattle.bt_laws.specs.Runs.{interval_at}
 use Rattle.bt_bed.specs.calls.LevelScan.{begun_after, ended_after}
-use Rattle.bt_runs.specs.model.Depth.{DepthInterval, counted_on, coverage, depth_at, depth_of, depths_on, levels_of}
-use Rattle.bt_laws.proofs.lemmas.single.LevelLemmas.{are_levels}
-use Rattle.bt_laws.proofs.lemmas.pipes.DepthParts.{shown}
 use Rattle.bt_laws.proofs.lemmas.pipes.LinesBack.{IsSaid, good_are_said}
+
+-- ---- levels above 0
+
+abbrev is_deep : Level → Bool
+is_deep l = nat_lt 0 l.value
+
+deep_value : (ls : List Level) (p v : ℕ) → HasValue (filter is_deep ls) p v → HasValue ls p v × (0 < v)
+deep_value ls p v h = grind (arith, ltb-true, (some_value (nat_lt 0) ls p v h))
+
+value_deep : (ls : List Level) (p v : ℕ) → 0 < v → HasValue ls p v → HasValue (filter is_deep ls) p v
+value_deep ls p v some h = value_some (nat_lt 0) ls p v (lt-ltb 0 v some) h
+
+pub shown : (d v : ℕ) → cond (nat_lt 0 d) (Some d) None ≡ Some v → (d ≡ v) × (0 < v)
+shown d v e = grind arith
+
+module _ (spans : List Span) (size : ℕ) where
+  deep_levels : levels_of (depth_of false spans) size ≡ filter is_deep (levels_of (depth_of true spans) size)
+  unfolding depth_of
+  deep_levels =
+      let all = are_levels (depth_of true spans) size in
+      grind (arith, only_levels, (some_disjoint (nat_lt 0) 0 (levels_of (depth_of true spans) size) all.disjoint), deep_value, value_deep)
+
+map_filter : (name : List ℕ) (ls : List Level) → map (depth_on name) (filter is_deep ls) ≡ filter (λ (r : DepthInterval). nat_lt 0 r.depth) (map (depth_on name) ls)
+map_filter name [] = refl
+map_filter name (l ∷ ls) = grind (arith, (map_filter name ls))
+
+deep_all : (strand : Option Strand) (records : List Feature) (entries : List Entry) → flat_map (depths_on false strand records) entries ≡ filter (λ (r : DepthInterval). nat_lt 0 r.depth) (flat_map (depths_on true strand records) entries)
+deep_all strand records [] = refl
+deep_all strand records (e ∷ es) = grind (arith, (deep_levels (counted_on strand e.name records) e.length), (map_filter e.name (levels_of (depth_of true (counted_on strand e.name records)) e.length)), (deep_all strand records es), filter-append, nat_lt)
+
+pub deep_coverage : (strand : Option Strand) (entries : List Entry) (records : List Feature) → coverage false strand entries records ≡ filter (λ (r : DepthInterval). nat_lt 0 r.depth) (coverage true strand entries records)
+unfolding coverage
+deep_coverage strand entries records = deep_all strand records entries
+
+-- ---- depth 0
+
+zero_again : (rs : List DepthInterval) → filter (λ (r : DepthInterval). eqb r.depth 0) rs ≡ map without_depth (map interval_at (filter (λ (r : DepthInterval). eqb r.depth 0) rs))
+zero_again [] = refl
+zero_again (r ∷ rs) = grind (arith, (zero_again rs))
+
+pub zero_depths : depth_0_is_complement
+zero_depths inputs chromosomes well =
+    let records = first_records chromosomes inputs in
+    let entries = entries_in chromosomes in
+    let good = bed_good First (order_in_use chromosomes) inputs.first in
+    let other = fault_as (Coverage true None) (Complement false) inputs chromosomes well (told_same (coverage_written entries true None) (complement_written entries false) (items_in good) good.fault) in (
+      record { output = genomecov_whole true None inputs chromosomes well; faultless = well.faultless },
+      record { output = complement_whole false inputs chromosomes other; faultless = other.faultless },
+      zero_again (coverage true None entries records) ∙ ap (map without_depth) (sym (gaps_depth_0 entries records)),
+    )
+
+pub deep_depths : bg_is_bga_above_0
+deep_depths strand inputs chromosomes well =
+    let records = first_records chromosomes inputs in
+    let entries = entries_in chromosomes in
+    let good = bed_good First (order_in_use chromosomes) inputs.first in
+    let other = fault_as (Coverage true strand) (Coverage false strand) inputs chromosomes well (told_same (coverage_written entries true strand) (coverage_written entries false strand) (items_in good) good.fault) in (
+      record { output = genomecov_whole true strand inputs chromosomes well; faultless = well.faultless },
+      record { output = genomecov_whole false strand inputs chromosomes other ∙ ap depth_lines (deep_coverage strand entries records); faultless = other.faultless },
+    )
+
+-- Gaps of gaps, and merged depths.
 
 -- ---- on one chromosome
 
@@ -129,13 +191,11 @@ complements_twice inputs entries well plain =
     let known = chroms_of inputs.genome entries well.genome in
     let good = bed_good First order inputs.first in
     let merged_well = fault_as (Complement false) (Merge 0 All) inputs (Some entries) well (told_same (complement_written entries false) (merge_written order 0 All) (items_in good) good.fault) in
-    let e = complement_whole false inputs (Some entries) well in
-    let gaps = complement false entries records in
-    let is = subst (λ text. IsInput order text (filter is_no_header (map three_columns gaps))) (sym e) (gaps_back entries known.0 known.1 false records) in (
+    let gaps = complement false entries records in (
       record { output = merge_whole 0 All inputs (Some entries) merged_well; faultless = merged_well.faultless },
-      writes_is (Complement false) (piped (Complement false) inputs) (interval_lines (flat_map (cut_at_length entries) (ordered_runs order 0 All records)))
-          (complement_on false (piped (Complement false) inputs) (Some entries) (report_of (Complement false) inputs).output (filter is_no_header (map three_columns gaps)) well.genome refl is
-          ∙ ap (λ rs. record { output = interval_lines rs; fault = None }) (complement_twice entries known.1 records (placed_good First order inputs.first (order_total (Some entries))) plain)),
+      runs_on_output (Complement false) (Complement false) inputs (Some entries) (complement_written entries false) (filter is_no_header (map three_columns gaps)) (interval_lines gaps) (interval_lines (flat_map (cut_at_length entries) (ordered_runs order 0 All records)))
+          (λ first second. refl) well.genome (complement_whole false inputs (Some entries) well) (gaps_back entries known.0 known.1 false records)
+          (ap interval_lines (complement_twice entries known.1 records (placed_good First order inputs.first (order_total (Some entries))) plain)),
     )
 
 -- ---- where levels lie
@@ -153,7 +213,7 @@ module _ (records : List Feature) where
   spans_for name size = map level_span (levels_for name size)
 
   parts_at : (entry : Entry) → map interval_at (depths_on false None records entry) ≡ map (placed_on entry.name) (spans_for entry.name entry.length)
-  parts_at entry = places_on entry.name (levels_for entry.name entry.length)
+  parts_at entry = grind (arith, places_on)
 
   no_levels : (name : List ℕ) → spans_for name 0 ≡ []
   unfolding ended_after begun_after
@@ -219,13 +279,11 @@ genomecov_merged d inputs entries well within =
     let known = chroms_of inputs.genome entries well.genome in
     let good = bed_good First order inputs.first in
     let depths_well = fault_as (Merge d All) (Coverage false None) inputs (Some entries) well (told_same (merge_written order d All) (coverage_written entries false None) (items_in good) good.fault) in
-    let e = genomecov_whole false None inputs (Some entries) depths_well in
     let read = filter is_no_header (map four_columns (coverage false None entries records)) in
-    let text = (report_of (Coverage false None) inputs).output in
-    let is : IsInput order text read = subst (λ t. IsInput order t read) (sym e) (coverage_back entries known.0 known.1 false None records) in
+    let text = depth_lines (coverage false None entries records) in
+    let is : IsInput order text read = coverage_back entries known.0 known.1 false None records in
     let read_said = subst (AllByRecursion IsSaid) (is.records_are First) (good_are_said First order (whole_text text)) in
     let read_placed = subst (λ rs. ArePlaced order (intervals_of rs)) (is.records_are First) (placed_good First order (whole_text text) total) in
-    writes_is (Merge d All) (piped (Coverage false None) inputs) (report_of (Merge d All) inputs).output
-    (merge_on d All (piped (Coverage false None) inputs) (Some entries) text read well.genome refl is
-    ∙ ap (λ rs. record { output = interval_lines rs; fault = None }) (same_merge entries known.1 records (good_are_said First order inputs.first) within read read_said refl d (placed_good First order inputs.first total) read_placed)
-    ∙ ap (λ bytes. record { output = bytes; fault = None }) (sym (merge_whole d All inputs (Some entries) well)))
+    runs_on_output (Merge d All) (Coverage false None) inputs (Some entries) (merge_written order d All) read text (report_of (Merge d All) inputs).output
+    (λ first second. refl) well.genome (genomecov_whole false None inputs (Some entries) depths_well) is
+    (ap interval_lines (same_merge entries known.1 records (good_are_said First order inputs.first) within read read_said refl d (placed_good First order inputs.first total) read_placed) ∙ sym (merge_whole d All inputs (Some entries) well))

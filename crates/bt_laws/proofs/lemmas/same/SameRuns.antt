@@ -1,17 +1,17 @@
 -- Records that differ in their order, or in one that comes twice.
-use Rattle.bt_lines.proofs.Std.{common_steps, ◌≡◌, inl, inr, ◌||◌, ℕ, ◌+◌, ◌<◌, ◌≤◌, Bool, true, false, not, List, [], ◌∷◌, ◌++◌, map, filter, Option, refl, sym, ap, ◌∙◌, subst, arith, ◌≢◌, bytes_eq, flat_map, sum_by, IsPermutation, IsTrue, map-append, filter-append, AllByRecursion, list_any, list_any-IsPermutation, sum_by-IsPermutation, sum_by-cons, append-nil, None, Ok, ap₂, length, or_parts}
+use Rattle.bt_lines.proofs.Std.{common_steps, ◌≡◌, inl, inr, ◌||◌, ℕ, ◌+◌, ◌<◌, ◌≤◌, Bool, true, false, not, List, [], ◌∷◌, ◌++◌, map, filter, Option, refl, sym, ap, ◌∙◌, subst, arith, ◌≢◌, bytes_eq, flat_map, sum_by, IsPermutation, map-append, filter-append, AllByRecursion, list_any, list_any-IsPermutation, sum_by-IsPermutation, sum_by-cons, append-nil, None, Ok, ap₂, length, or_parts}
 use Rattle.bt_lines.specs.declared.fault.Input.TheVariants.{First}
-use Rattle.bt_bed.specs.model.Sorted.{has_records}
+use Rattle.bt_bed.specs.model.Sorted.{has_records, sorting_of}
 use Rattle.bt_bed.specs.calls.Orders.{ArePlaced, IsTotal, AreDistinct}
 use Rattle.bt_bed.proofs.lemmas.Definitions.{placed_good}
 use Rattle.bt_bed.proofs.lemmas.parse.NameLemmas.{cases_name, name_eq, name_ne-sym}
 use Rattle.bt_laws.proofs.lemmas.single.StrandOrder.{names_in_order, ordered_all}
-use Rattle.bt_runs.proofs.lemmas.order.FileOrder.{distinct_chromosomes, among_chromosomes, spans_on-append, some_placed, spans_on-here, spans_on-elsewhere, spans_on-none, without-here, runs_of-nil, without_absent, ordered_come}
+use Rattle.bt_runs.proofs.lemmas.order.FileOrder.{distinct_chromosomes, among_chromosomes, spans_on-append, some_placed, spans_on-here, spans_on-none, without-here, runs_of-nil, without_absent, ordered_come}
 use Rattle.bt_laws.proofs.lemmas.pipes.LinesBack.{placed_known, good_are_said}
 use Rattle.bt_laws.proofs.lemmas.pipes.RunsBack.{merge_back, merge_in_order}
 use Rattle.bt_laws.proofs.lemmas.parts.PartMerge.{named_all}
 use Rattle.bt_laws.proofs.lemmas.pipes.Placing.{Earlier, ascending_pairs}
-use Rattle.bt_bed.specs.model.Feature.{Feature, interval_of, intervals_of, Interval, placed_on, spans_on, Span}
+use Rattle.bt_bed.specs.model.Feature.{Feature, intervals_of, Interval, placed_on, spans_on, Span}
 use Rattle.bt_bed.specs.calls.Stretches.{IsCovered}
 use Rattle.bt_bed.specs.model.BedLine.{interval_lines}
 use Rattle.bt_bed.specs.model.Genome.{Entry}
@@ -31,14 +31,12 @@ use Rattle.bt_laws.proofs.lemmas.pipes.PipeLaws.{SameCover, depth_both, same_by_
 use Rattle.bt_runs.proofs.lemmas.Lists.{EachPair, Some_of, all_any, filter_all, flat_map_same, all_filter, all_map, all_so, filter_passes}
 use Rattle.bt_laws.proofs.lemmas.parts.PartTexts.{order_total}
 use Rattle.bt_lines.specs.model.Fault.{FaultValue}
-use Rattle.bt_lines.specs.model.Lines.{whole_text}
-use Rattle.bt_bed.specs.model.Good.{items_in, bed_good}
+use Rattle.bt_lines.specs.model.Lines.{Handed, whole_text}
+use Rattle.bt_bed.specs.model.Good.{items_in, bed_format, bed_good}
 use Rattle.bt_runs.proofs.lemmas.merge.Bridging.{are_runs, bridged_here, only_runs}
-use Rattle.bt_tool.specs.model.Written.{Report, report_by, Written, complement_written, merge_written}
+use Rattle.bt_tool.specs.model.Written.{Report, report_by, Written, complement_written, members_report, merge_written}
 use Rattle.bt_tool.specs.declared.planning.plan_type.Command.{Command}
 use Rattle.bt_laws.specs.Pipes.{IsInput, three_columns}
-
--- ---- what comes twice
 
 -- ---- of the records that are kept
 
@@ -47,7 +45,7 @@ module _ (keep : Feature → Bool) where
   kept records = intervals_of (filter keep records)
 
   kept_both : (xs ys : List Feature) → kept (xs ++ ys) ≡ kept xs ++ kept ys
-  kept_both xs ys = ap intervals_of (filter-append keep xs ys) ∙ map-append interval_of (filter keep xs) (filter keep ys)
+  kept_both xs ys = grind (arith, filter-append, map-append)
 
   abbrev pub depth_in : List ℕ → List Feature → ℕ → ℕ
   depth_in name records p = depth_at (spans_on name (kept records)) p
@@ -56,7 +54,7 @@ module _ (keep : Feature → Bool) where
   depth_split name xs ys p = grind (arith, kept_both, spans_on-append, depth_both)
 
   depth_two : (name : List ℕ) (before : List Feature) (r : Feature) (after : List Feature) (p : ℕ) → depth_in name (before ++ r ∷ after) p ≡ depth_in name before p + (depth_in name (r ∷ []) p + depth_in name after p)
-  depth_two name before r after p = (grind (arith, kept_both, spans_on-append, depth_both)) ∙ ap (λ n. depth_in name before p + n) (depth_split name (r ∷ []) after p)
+  depth_two name before r after p = grind (arith, kept_both, depth_split)
 
   -- whether a name has records, and how many cover a position, is said record by record
   abbrev has_one : List ℕ → Feature → Bool
@@ -64,7 +62,7 @@ module _ (keep : Feature → Bool) where
 
   has_any : (name : List ℕ) (rs : List Feature) → has_records name (kept rs) ≡ list_any (has_one name) rs
   has_any name [] = refl
-  has_any name (r ∷ rs) = (grind arith) ∙ ap (λ b. has_one name r || b) (has_any name rs)
+  has_any name (r ∷ rs) = grind (arith, (has_any name rs))
 
   depth_sum : (name : List ℕ) (rs : List Feature) (p : ℕ) → depth_in name rs p ≡ sum_by (λ r. depth_in name (r ∷ []) p) rs
   depth_sum name [] p = refl
@@ -94,7 +92,7 @@ exchanged_alike : (rs ss : List Feature) → IsPermutation rs ss → IsAlike rs 
 exchanged_alike rs ss is = grind (arith, exchanged_cover, has_any, list_any-IsPermutation)
 
 repeated_alike : (rs ss : List Feature) → IsRepeated rs ss → IsAlike rs ss
-repeated_alike rs ss is = record { has = λ keep. repeated_has keep rs ss is; cover = λ keep. repeated_cover keep rs ss is }
+repeated_alike rs ss is = grind (arith, repeated_has, repeated_cover)
 
 -- ---- names in order are determined by which they are
 
@@ -111,8 +109,8 @@ among_first n ns = ap (λ b. b || is_among ns n) (name_eq n n refl)
 module _ (order : Order) (total : IsTotal order) where
   same_names : (xs ys : List (List ℕ)) → AreKnown order xs → AreKnown order ys → EachPair (Earlier order) xs → EachPair (Earlier order) ys → ((name : List ℕ) → is_among xs name ≡ is_among ys name) → xs ≡ ys
   same_names [] [] k l up vp same = refl
-  same_names [] (y ∷ ys) k l up vp same = let apart : false ≡ true = same y ∙ among_first y ys in cc
-  same_names (x ∷ xs) [] k l up vp same = let apart : true ≡ false = sym (among_first x xs) ∙ same x in cc
+  same_names [] (y ∷ ys) k l up vp same = grind (arith, (among_first y ys))
+  same_names (x ∷ xs) [] k l up vp same = grind (arith, (among_first x xs))
   same_names (x ∷ xs) (y ∷ ys) k l up vp same = elim (cases_name x y) [
     | inl e ↦
         ap (λ n. n ∷ xs) e
@@ -128,13 +126,7 @@ module _ (order : Order) (total : IsTotal order) where
 
   module _ (keep : Feature → Bool) (rs : List Feature) (placed : ArePlaced order (intervals_of rs)) where
     known : AreKnown order (chromosomes (kept keep rs))
-    known = named_all (λ name. IsTrue (order.knows name)) (kept keep rs) (placed_known order (kept keep rs) (some_placed order total keep rs placed))
-
-    known_named : AreKnown order (named keep rs)
-    known_named = ordered_all (λ name. IsTrue (order.knows name)) order (chromosomes (kept keep rs)) known
-
-    named_come : EachPair (Earlier order) (named keep rs) × ((name : List ℕ) → is_among (named keep rs) name ≡ has_records name (kept keep rs))
-    named_come = grind (arith, names_in_order, known, distinct_chromosomes, ascending_pairs, known_named, among_chromosomes)
+    known = grind (arith, named_all, some_placed, (placed_known order (kept keep rs) (some_placed order total keep rs placed)))
 
 -- ---- merge, complement and genomecov of them
 
@@ -144,18 +136,14 @@ alike_merged names gap rs ss same = flat_map_same (λ name. runs_on name gap rs)
 
 alike_runs : (order : Order) → IsTotal order → (gap : ℕ) (strand : MergeStrand) (rs ss : List Feature) → ArePlaced order (intervals_of rs) → ArePlaced order (intervals_of ss) → IsAlike rs ss → ordered_runs order gap strand rs ≡ ordered_runs order gap strand ss
 unfolding ordered_runs
-alike_runs order total gap strand rs ss placed other is = grind (arith, alike_merged, named_come, same_names, known_named)
+alike_runs order total gap strand rs ss placed other is = grind (arith, alike_merged, names_in_order, known, distinct_chromosomes, ascending_pairs, among_chromosomes, same_names, ordered_all)
 
 pub all_counted : (rs : List Feature) → counted All rs ≡ intervals_of rs
-all_counted rs = ap intervals_of (filter_all (λ r. true) rs (all_any _ rs (λ r. refl)))
-
-pub gaps_by : (limit : Bool) (entries : List Entry) (rs ss : List Feature) → ((name : List ℕ) → has_records name (intervals_of rs) ≡ has_records name (intervals_of ss))
-    → ((name : List ℕ) → SameCover (spans_on name (intervals_of rs)) (spans_on name (intervals_of ss))) → complement limit entries rs ≡ complement limit entries ss
-unfolding complement
-gaps_by limit entries rs ss has cover = grind (arith, same_gaps)
+all_counted rs = grind (arith, filter_all, all_any)
 
 alike_gaps : (limit : Bool) (entries : List Entry) (rs ss : List Feature) → IsAlike rs ss → complement limit entries rs ≡ complement limit entries ss
-alike_gaps limit entries rs ss is = grind (arith, gaps_by, (all_counted rs), (all_counted ss))
+unfolding complement
+alike_gaps limit entries rs ss is = grind (arith, same_gaps, (all_counted rs), (all_counted ss))
 
 exchanged_depths : (zeros : Bool) (strand : Option Strand) (entries : List Entry) (rs ss : List Feature) → IsPermutation rs ss → coverage zeros strand entries rs ≡ coverage zeros strand entries ss
 unfolding coverage depth_of
@@ -167,7 +155,7 @@ exchanged_depths zeros strand entries rs ss is =
 -- ---- the reports
 
 placed_first : (chromosomes : Option (List Entry)) (inputs : Inputs) → ArePlaced (order_in_use chromosomes) (intervals_of (first_records chromosomes inputs))
-placed_first chromosomes inputs = placed_good First (order_in_use chromosomes) inputs.first (order_total chromosomes)
+placed_first chromosomes inputs = grind (arith, placed_good, order_total)
 
 -- all runs at once, or those of one strand
 pub merge_pooled : (d : ℕ) (strand : MergeStrand) (inputs : Inputs) (chromosomes : Option (List Entry)) → strand ≢ Each → RunsWithoutFault (Merge d strand) inputs chromosomes
@@ -227,7 +215,7 @@ here_all name (s ∷ ss) = spans_on-here name (placed_on name s) (map (placed_on
 
 pub none_there : (name other : List ℕ) (ss : List Span) → bytes_eq other name ≡ false → spans_on name (map (placed_on other) ss) ≡ []
 none_there name other [] e = refl
-none_there name other (s ∷ ss) e = spans_on-elsewhere name (placed_on other s) (map (placed_on other) ss) e ∙ none_there name other ss e
+none_there name other (s ∷ ss) e = grind (arith, (none_there name other ss e))
 
 -- ---- which record covers a position of a chromosome
 
@@ -312,7 +300,7 @@ module _ (order : Order) (total : IsTotal order) (gap : ℕ) (strand : MergeStra
   each_has = names_so (λ name. 0 < length (runs name)) used (λ name has. some_run gap (spans_on name used) (has_spans name used has) (spans_full name used (counted_full strand records full)))
 
   pub run_names : chromosomes (ordered_runs order gap strand records) ≡ names
-  run_names = ap chromosomes runs_are_by ∙ names_again runs names (distinct_chromosomes used) each_has
+  run_names = grind (arith, runs_are_by, names_again, distinct_chromosomes, each_has)
 
   pub run_spans : (name : List ℕ) → spans_on name (ordered_runs order gap strand records) ≡ runs name
   run_spans name = grind (arith, runs_are_by, distinct_chromosomes, spans_on-none, among_chromosomes, runs_of-nil, spans_present, spans_absent)
@@ -327,20 +315,15 @@ module _ (order : Order) (total : IsTotal order) (gap : ℕ) (strand : MergeStra
 
 -- ---- a run on an output
 
-pub merge_on : (d : ℕ) (strand : MergeStrand) (inputs : Inputs) (chromosomes : Option (List Entry)) (text : List ℕ) (records : List Feature) → chromosomes_of inputs.genome ≡ Ok chromosomes → inputs.first ≡ whole_text text → IsInput (order_in_use chromosomes) text records
-    → report_of (Merge d strand) inputs ≡ record { output = (merge_written (order_in_use chromosomes) d strand).whole records; fault = None }
-merge_on d strand inputs chromosomes text records genome first is =
-    report_there (Merge d strand) inputs chromosomes genome
-    ∙ (grind arith)
-
-pub complement_on : (limit : Bool) (inputs : Inputs) (chromosomes : Option (List Entry)) (text : List ℕ) (records : List Feature) → chromosomes_of inputs.genome ≡ Ok chromosomes → inputs.first ≡ whole_text text → IsInput (order_in_use chromosomes) text records
-    → report_of (Complement limit) inputs ≡ record { output = interval_lines (complement limit (entries_in chromosomes) records); fault = None }
-complement_on limit inputs chromosomes text records genome first is =
-    report_there (Complement limit) inputs chromosomes genome
-    ∙ (grind arith)
-
-pub writes_is : (command : Command) (inputs : Inputs) (bytes : List ℕ) → report_of command inputs ≡ record { output = bytes; fault = None } → RunWrites command inputs bytes
-writes_is command inputs bytes e = record { output = ap (λ (r : Report). r.output) e; faultless = ap (λ (r : Report). r.fault) e }
+-- a command of one input, on what another writes
+pub runs_on_output : (command other : Command) (inputs : Inputs) (chromosomes : Option (List Entry)) (written : Written Feature) (records : List Feature) (text bytes : List ℕ)
+    → ((first : Handed) (second : Option Handed) → (behaviour_of command chromosomes).report first second ≡ members_report written (bed_format (sorting_of (order_in_use chromosomes))) first)
+    → chromosomes_of inputs.genome ≡ Ok chromosomes → (report_of other inputs).output ≡ text → IsInput (order_in_use chromosomes) text records → written.whole records ≡ bytes → RunWrites command (piped other inputs) bytes
+runs_on_output command other inputs chromosomes written records text bytes behaves genome e is whole =
+    let there : report_of command (piped other inputs) ≡ record { output = bytes; fault = None } =
+    report_there command (piped other inputs) chromosomes genome ∙ behaves (whole_text (report_of other inputs).output) inputs.second
+    ∙ ap (λ t. members_report written (bed_format (sorting_of (order_in_use chromosomes))) (whole_text t)) e ∙ (grind (arith, (is.records_are First), (is.faultless First))) in
+    record { output = ap (λ (r : Report). r.output) there; faultless = ap (λ (r : Report). r.fault) there }
 
 -- what is known of the records of a run
 module _ (chromosomes_in : Option (List Entry)) (inputs : Inputs) where
@@ -351,16 +334,16 @@ module _ (chromosomes_in : Option (List Entry)) (inputs : Inputs) where
   as_read = first_records chromosomes_in inputs
 
   read_placed : ArePlaced order_in (intervals_of as_read)
-  read_placed = placed_good First order_in inputs.first (order_total chromosomes_in)
+  read_placed = grind (arith, placed_good, order_total)
 
   read_full : AllByRecursion (λ (r : Feature). r.start < r.stop) as_read
   read_full = grind (arith, all_so, (good_are_said First order_in inputs.first))
 
   there_placed : (d : ℕ) (strand : MergeStrand) → ArePlaced order_in (ordered_runs order_in d strand as_read)
-  there_placed d strand = (merge_in_order order_in (order_total chromosomes_in) d strand as_read (good_are_said First order_in inputs.first) read_placed).placed
+  there_placed d strand = grind (arith, merge_in_order, order_total, good_are_said, read_placed)
 
   there_input : (d : ℕ) (strand : MergeStrand) → IsInput order_in (interval_lines (ordered_runs order_in d strand as_read)) (map three_columns (ordered_runs order_in d strand as_read))
-  there_input d strand = merge_back order_in (order_total chromosomes_in) d strand as_read (good_are_said First order_in inputs.first) read_placed
+  there_input d strand = grind (arith, merge_back, order_total, good_are_said, read_placed)
 
 merged_by : (d : ℕ) (strand : MergeStrand) (inputs : Inputs) (chromosomes_in : Option (List Entry)) → RunsWithoutFault (Merge d strand) inputs chromosomes_in
     → (report_of (Merge d strand) inputs).output ≡ interval_lines (ordered_runs (order_in_use chromosomes_in) d strand (first_records chromosomes_in inputs))
@@ -368,14 +351,12 @@ merged_by : (d : ℕ) (strand : MergeStrand) (inputs : Inputs) (chromosomes_in :
 merged_by d strand inputs chromosomes_in well e =
     let order = order_in_use chromosomes_in in
     let records = first_records chromosomes_in inputs in
-    writes_is (Merge d All) (piped (Merge d strand) inputs) (report_of (Merge d strand) inputs).output
-    (merge_on d All (piped (Merge d strand) inputs) chromosomes_in (report_of (Merge d strand) inputs).output (map three_columns (ordered_runs order d strand records)) well.genome refl
-    (subst (λ text. IsInput order text (map three_columns (ordered_runs order d strand records))) (sym e) (there_input chromosomes_in inputs d strand))
-    ∙ ap (λ rs. record { output = interval_lines rs; fault = None }) (merged_again order (order_total chromosomes_in) d strand records (read_placed chromosomes_in inputs) (read_full chromosomes_in inputs) (there_placed chromosomes_in inputs d strand))
-    ∙ ap (λ bytes. record { output = bytes; fault = None }) (sym e))
+    runs_on_output (Merge d All) (Merge d strand) inputs chromosomes_in (merge_written order d All) (map three_columns (ordered_runs order d strand records)) (interval_lines (ordered_runs order d strand records)) (report_of (Merge d strand) inputs).output
+    (λ first second. refl) well.genome e (there_input chromosomes_in inputs d strand)
+    (ap interval_lines (merged_again order (order_total chromosomes_in) d strand records (read_placed chromosomes_in inputs) (read_full chromosomes_in inputs) (there_placed chromosomes_in inputs d strand)) ∙ sym e)
 
 pub merge_twice : merge_of_merge
-merge_twice d strand inputs chromosomes other well = merged_by d strand inputs chromosomes well (merge_pooled d strand inputs chromosomes other well)
+merge_twice d strand inputs chromosomes other well = grind (arith, merged_by, merge_pooled)
 
 -- ---- complement of merge
 
@@ -389,7 +370,8 @@ told_same one other members fault = grind arith
 
 gaps_again : (limit : Bool) (entries : List Entry) (order : Order) (total : IsTotal order) (records : List Feature) (placed : ArePlaced order (intervals_of records)) (full : AllByRecursion (λ (r : Feature). r.start < r.stop) records)
     → complement limit entries (map three_columns (ordered_runs order 0 All records)) ≡ complement limit entries records
-gaps_again limit entries order total records placed full = grind (arith, (all_counted records), gaps_by, back, run_has, run_spans, runs_cover)
+unfolding complement
+gaps_again limit entries order total records placed full = grind (arith, (all_counted records), same_gaps, back, run_has, run_spans, runs_cover)
 
 pub complement_merged : complement_of_merge
 complement_merged limit inputs chromosomes_in well =
@@ -397,9 +379,6 @@ complement_merged limit inputs chromosomes_in well =
     let records = first_records chromosomes_in inputs in
     let good = bed_good First order inputs.first in
     let merged_well = fault_as (Complement limit) (Merge 0 All) inputs chromosomes_in well (told_same (complement_written (entries_in chromosomes_in) limit) (merge_written order 0 All) (items_in good) good.fault) in
-    let e = merge_whole 0 All inputs chromosomes_in merged_well in
-    let is = subst (λ text. IsInput order text (map three_columns (ordered_runs order 0 All records))) (sym e) (there_input chromosomes_in inputs 0 All) in
-    writes_is (Complement limit) (piped (Merge 0 All) inputs) (report_of (Complement limit) inputs).output
-    (complement_on limit (piped (Merge 0 All) inputs) chromosomes_in (report_of (Merge 0 All) inputs).output (map three_columns (ordered_runs order 0 All records)) well.genome refl is
-    ∙ ap (λ gaps. record { output = interval_lines gaps; fault = None }) (gaps_again limit (entries_in chromosomes_in) order (order_total chromosomes_in) records (read_placed chromosomes_in inputs) (read_full chromosomes_in inputs))
-    ∙ ap (λ bytes. record { output = bytes; fault = None }) (sym (complement_whole limit inputs chromosomes_in well)))
+    runs_on_output (Complement limit) (Merge 0 All) inputs chromosomes_in (complement_written (entries_in chromosomes_in) limit) (map three_columns (ordered_runs order 0 All records)) (interval_lines (ordered_runs order 0 All records)) (report_of (Complement limit) inputs).output
+    (λ first second. refl) well.genome (merge_whole 0 All inputs chromosomes_in merged_well) (there_input chromosomes_in inputs 0 All)
+    (ap interval_lines (gaps_again limit (entries_in chromosomes_in) order (order_total chromosomes_in) records (read_placed chromosomes_in inputs) (read_full chromosomes_in inputs)) ∙ sym (complement_whole limit inputs chromosomes_in well))

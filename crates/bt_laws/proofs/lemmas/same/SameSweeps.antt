@@ -1,5 +1,5 @@
 -- Which runs of intersect and subtract write the same lines.
-use Rattle.bt_lines.proofs.Std.{◌≡◌, ℕ, Bool, true, false, cond, List, [], ◌∷◌, ◌++◌, map, filter, length, Option, Result, Ok, Err, refl, sym, ap, ap₂, ◌∙◌, subst, arith, decimal, ◌<◌, ◌≤◌, max, min, Some, None, inl, inr, cases_Bool, flat_map, nat_lt, replicate, ◌==◌, bytes_eq, AllByRecursion, map-id, list_any, or_parts, list_any-append}
+use Rattle.bt_lines.proofs.Std.{◌≡◌, ℕ, Bool, false, cond, List, [], ◌∷◌, ◌++◌, map, filter, length, Option, Result, Ok, Err, refl, sym, ap, ◌∙◌, subst, arith, decimal, ◌<◌, ◌≤◌, max, Some, None, inl, inr, cases_Bool, flat_map, nat_lt, replicate, ◌==◌, bytes_eq, AllByRecursion, map-id, list_any, or_parts, list_any-append}
 use Rattle.bt_lines.specs.model.Fault.{FaultValue}
 use Rattle.bt_lines.specs.model.Lines.{Handed, cut_fault, lines_handed, whole_text, TextLine}
 use Rattle.bt_lines.specs.declared.fault.Input.TheVariants.{First, Second}
@@ -8,7 +8,7 @@ use Rattle.bt_bed.specs.calls.Stretches.{IsCovered}
 use Rattle.bt_bed.specs.model.BedLine.{bed_text, interval_lines, record_of}
 use Rattle.bt_bed.specs.model.Genome.{Entry}
 use Rattle.bt_bed.specs.model.Good.{Good, items_in, good, good_from, or_else, bed_good, bed_format, line_says, said_after, good_handed}
-use Rattle.bt_bed.specs.model.Meeting.{join_report, written}
+use Rattle.bt_bed.specs.model.Meeting.{join_report}
 use Rattle.bt_bed.specs.model.Order.{Order, is_among}
 use Rattle.bt_sweep.specs.model.Hits.{hits_among, hits, strands_agree}
 use Rattle.bt_sweep.specs.calls.Sweeping.{any_overlap}
@@ -16,15 +16,15 @@ use Rattle.bt_sweep.specs.model.Lines.{hit_line, intersect, line_with, lines_for
 use Rattle.bt_sweep.specs.calls.LineLaws.{spans_of}
 use Rattle.bt_sweep.specs.declared.hits.hit_rule.HitRule.{HitRule}
 use Rattle.bt_sweep.specs.declared.output.shape.Shape.{Shape}
-use Rattle.bt_sweep.specs.declared.output.shape.Shape.TheVariants.{Count, Missing, Once, OrigA, Whole, Pieces}
-use Rattle.bt_tool.specs.model.Report.{order_in_use, behaviour_of, Inputs, or_empty, chromosomes_of, report_of, report_on}
-use Rattle.bt_tool.specs.model.Written.{met_report, met_within, Report, report_by, Written, merge_written}
-use Rattle.bt_tool.specs.declared.planning.plan_type.Command.TheVariants.{Intersect, Subtract, Merge}
+use Rattle.bt_sweep.specs.declared.output.shape.Shape.TheVariants.{Count, Missing, Once, OrigA, Pieces}
+use Rattle.bt_tool.specs.model.Report.{order_in_use, behaviour_of, Inputs, or_empty, chromosomes_of, report_of}
+use Rattle.bt_tool.specs.model.Written.{met_within}
+use Rattle.bt_tool.specs.declared.planning.plan_type.Command.TheVariants.{Intersect, Merge}
 use Rattle.bt_laws.specs.WholeRuns.{RunsWithoutFault, first_records, second_records, RunWrites, of_second, with_second_input}
 use Rattle.bt_laws.specs.Same.{Counted, counts_say_all, missing_is_whole, own_line, with_hits, merged_second_missing, merged_second_once, merged_second_subtract, one_base}
 use Rattle.bt_runs.proofs.lemmas.Lists.{Some_of, all_any, flat_map_same, map_map, all_so, filter_passes}
 use Rattle.bt_laws.proofs.lemmas.parts.PartSweep.{all_true}
-use Rattle.bt_laws.proofs.lemmas.pipes.PipeLaws.{intersect_whole, limit_whole, subtract_whole, well_there, SameCover, runs_cover, same_sym, report_there}
+use Rattle.bt_laws.proofs.lemmas.pipes.PipeLaws.{intersect_whole, limit_whole, well_there, SameCover, runs_cover, same_sym, report_there}
 use Rattle.bt_lines.specs.declared.fault.Input.{Input}
 use Rattle.bt_lines.specs.declared.fault.Kind.{Kind}
 use Rattle.bt_bed.specs.model.Sorted.{Locus, Sorting, sorting_of, has_records}
@@ -52,17 +52,9 @@ use Rattle.bt_laws.proofs.lemmas.pipes.Placing.{others}
 
 -- ---- two shapes that write the same lines of each record
 
-missing_met : (order : Order) (rule : HitRule) (limit : Option ℕ) (first second : Good Feature) → met_within order Missing rule limit first second ≡ met_within order Whole rule limit first second
-unfolding lines_for
-missing_met order rule limit first second = grind arith
-
-same_report_on : (rule : HitRule) (held : Option ℕ) (found : Result (Option (List Entry)) FaultValue) (first : Handed) (second : Option Handed) → report_on (Intersect Missing rule held) found first second ≡ report_on (Subtract true rule held) found first second
-same_report_on rule held (Err fault) first second = refl
-same_report_on rule held (Ok chromosomes) first second = ap met_report (missing_met (order_in_use chromosomes) rule held (bed_good First (order_in_use chromosomes) first) (bed_good Second (order_in_use chromosomes) (or_empty second)))
-
 pub missing_whole : missing_is_whole
-unfolding report_of
-missing_whole rule held inputs = same_report_on rule held (chromosomes_of inputs.genome) inputs.first inputs.second
+unfolding report_of lines_for
+missing_whole rule held inputs = grind arith
 
 -- ---- the fault doesn't depend on the shape
 
@@ -80,17 +72,17 @@ module _ (rule : HitRule) (second : List Feature) where
   count_lines : (as_read : List Feature) → intersect Count rule as_read second ≡ flat_map (λ (c : Counted). line_with (bed_text c.at ∷ decimal c.hits ∷ [])) (map (with_hits rule second) as_read)
   unfolding lines_for
   count_lines [] = refl
-  count_lines (a ∷ more) = ap (λ l. line_with (bed_text a ∷ decimal (length (hits_among rule a second)) ∷ []) ++ l) (count_lines more)
+  count_lines (a ∷ more) = grind (arith, (count_lines more))
 
   once_lines : (as_read : List Feature) → intersect Once rule as_read second ≡ flat_map (λ (c : Counted). own_line c.at) (filter (λ (c : Counted). nat_lt 0 c.hits) (map (with_hits rule second) as_read))
   unfolding lines_for
   once_lines [] = refl
-  once_lines (a ∷ more) = ap (λ l. lines_of Once a (hits_among rule a second) ++ l) (once_lines more) ∙ (grind arith)
+  once_lines (a ∷ more) = grind (arith, (once_lines more))
 
   missing_of : (as_read : List Feature) → intersect Missing rule as_read second ≡ flat_map (λ (c : Counted). own_line c.at) (filter (λ (c : Counted). c.hits == 0) (map (with_hits rule second) as_read))
   unfolding lines_for
   missing_of [] = refl
-  missing_of (a ∷ more) = ap (λ l. lines_of Missing a (hits_among rule a second) ++ l) (missing_of more) ∙ (grind arith)
+  missing_of (a ∷ more) = grind (arith, (missing_of more))
 
   often : (a : Feature) (found : List Feature) → flat_map (hit_line OrigA a) found ≡ flat_map own_line (replicate (length found) a)
   often a [] = refl
@@ -99,7 +91,7 @@ module _ (rule : HitRule) (second : List Feature) where
   original_lines : (as_read : List Feature) → intersect OrigA rule as_read second ≡ flat_map (λ (c : Counted). flat_map own_line (replicate c.hits c.at)) (map (with_hits rule second) as_read)
   unfolding lines_for
   original_lines [] = refl
-  original_lines (a ∷ more) = ap₂ (λ x y. x ++ y) (often a (hits_among rule a second)) (original_lines more)
+  original_lines (a ∷ more) = grind (arith, often, (original_lines more))
 
 pub counts_all : counts_say_all
 counts_all rule held inputs chromosomes well =
@@ -123,18 +115,15 @@ one_base_lines : (both : Bool) (shape : Shape) (first bs : List Feature) → int
 unfolding lines_for
 one_base_lines both shape first bs = grind (arith, of_nothing)
 
-any_hits : (a b : Feature) → a.chrom ≡ b.chrom → max a.start b.start < min a.stop b.stop → hits any_overlap a b ≡ true
-unfolding hits strands_agree
-any_hits a b same some = grind (arith, name_eq, enough_of_nothing)
-
 hit_some : (a : Feature) (bs : List Feature) (p : ℕ) → IsCovered (spans_of (hits_among any_overlap a bs)) p → Some_of (CoversOn a.chrom p) bs
 hit_some a [] p c = absurd c
 hit_some a (b ∷ bs) p c = grind (arith, (hit_some a bs p), (cases_Bool (hits any_overlap a b)), (same_name any_overlap a b))
 
 some_hit : (a : Feature) (bs : List Feature) (p : ℕ) → a.start ≤ p → p < a.stop → Some_of (CoversOn a.chrom p) bs
     → IsCovered (spans_of (hits_among any_overlap a bs)) p
+unfolding hits strands_agree
 some_hit a [] p from to w = absurd w
-some_hit a (b ∷ bs) p from to (inl w) = grind (arith, any_hits)
+some_hit a (b ∷ bs) p from to (inl w) = grind (arith, name_eq, enough_of_nothing)
 some_hit a (b ∷ bs) p from to (inr w) = grind (arith, (some_hit a bs p from to w))
 
 -- the positions of a that the second input has, and those that its hits have
@@ -161,23 +150,12 @@ module _ (a : Feature) (bs cs : List Feature) (full : AllByRecursion IsSaid bs) 
   pub pieces_same : pieces a (hits_among any_overlap a bs) ≡ pieces a (hits_among any_overlap a cs)
   pieces_same = grind (arith, (are_pieces a (hits_among any_overlap a bs)), only_pieces, hit_back, hit_to)
 
-  some_to : 0 < length (hits_among any_overlap a bs) → 0 < length (hits_among any_overlap a cs)
-  some_to some = grind (arith, first_covered, all_hits, covered_length, hit_back, hit_to)
-
 once_same : (a : Feature) (found other : List Feature) → (0 < length found → 0 < length other) → (0 < length other → 0 < length found) → (lines_of Once a found ≡ lines_of Once a other) × (lines_of Missing a found ≡ lines_of Missing a other)
 once_same a found other to back = grind arith
 
 -- shapes that see nothing but the bases of the second input
 pub record SeesBases (shape : Shape) : Type 0 where
   pub sees : (a : Feature) (bs cs : List Feature) → AllByRecursion IsSaid bs → AllByRecursion IsSaid cs → SameCover (spans_on a.chrom (intervals_of bs)) (spans_on a.chrom (intervals_of cs)) → lines_for shape any_overlap a bs ≡ lines_for shape any_overlap a cs
-
-once_sees : SeesBases Once
-unfolding lines_for
-once_sees = grind (arith, once_same, some_to, same_sym)
-
-missing_sees : SeesBases Missing
-unfolding lines_for
-missing_sees = grind (arith, once_same, some_to, same_sym)
 
 pieces_see : SeesBases Pieces
 unfolding lines_for
@@ -231,12 +209,17 @@ module _ (one other : Sorting) (too : (last : Option Locus) (said : Result (Opti
 pub other_input : (order : Order) (from to : Input) (handed : Handed) → (bed_good from order handed).fault ≡ None → IsLike (bed_good from order handed) (bed_good to order handed)
 other_input order = read_again (sorting_of order) (sorting_of order) (λ last said. said_itself (said_after (sorting_of order) last said))
 
-pub output_by : (written : Written Feature) (members : List Feature) (fault : Option FaultValue) → fault ≡ None → (report_by written members fault).output ≡ written.whole members
-output_by written members fault e = grind arith
-
 pub sweeps_from : (command : Command) (inputs : Inputs) (chromosomes : Option (List Entry)) (bytes : List ℕ) → chromosomes_of inputs.genome ≡ Ok chromosomes
     → ((behaviour_of command chromosomes).report inputs.first inputs.second).fault ≡ None → (RunsWithoutFault command inputs chromosomes → (report_of command inputs).output ≡ bytes) → RunWrites command inputs bytes
 sweeps_from command inputs chromosomes bytes genome none output = grind (arith, report_there)
+
+-- what another command writes, as the second input
+pub intersect_on : (command : Command) (inputs : Inputs) (chromosomes : Option (List Entry)) (read : List Feature) (shape : Shape) (rule : HitRule) → chromosomes_of inputs.genome ≡ Ok chromosomes → IsInput (order_in_use chromosomes) (of_second command inputs) read
+    → (bed_good First (order_in_use chromosomes) inputs.first).fault ≡ None → RunWrites (Intersect shape rule None) (with_second_input command inputs) (intersect shape rule (first_records chromosomes inputs) read)
+intersect_on command inputs chromosomes read shape rule genome is none =
+    sweeps_from (Intersect shape rule None) (with_second_input command inputs) chromosomes (intersect shape rule (first_records chromosomes inputs) read) genome
+    (met_none (order_in_use chromosomes) shape rule (bed_good First (order_in_use chromosomes) inputs.first) (bed_good Second (order_in_use chromosomes) (whole_text (of_second command inputs))) none (is.faultless Second))
+    (λ well. intersect_whole shape rule None (with_second_input command inputs) chromosomes well ∙ ap (intersect shape rule (first_records chromosomes inputs)) (is.records_are Second))
 
 module _ (inputs : Inputs) (chromosomes : Option (List Entry)) (genome : chromosomes_of inputs.genome ≡ Ok chromosomes) (none : (bed_good Second (order_in_use chromosomes) (or_empty inputs.second)).fault ≡ None) where
   abbrev order : Order
@@ -251,64 +234,43 @@ module _ (inputs : Inputs) (chromosomes : Option (List Entry)) (genome : chromos
   abbrev alone : Inputs
   alone = record { genome = inputs.genome; first = or_empty inputs.second; second = None }
 
-  -- the records of the second input, read as a first one
-  seconds_first : IsLike (bed_good Second order (or_empty inputs.second)) (bed_good First order (or_empty inputs.second))
-  seconds_first = other_input order Second First (or_empty inputs.second) none
-
   second_is : of_second (Merge 0 All) inputs ≡ interval_lines runs
-  second_is =
-      let good = bed_good First order (or_empty inputs.second) in
-      ap (λ (r : Report). r.output) (report_there (Merge 0 All) alone chromosomes genome) ∙ output_by (merge_written order 0 All) (items_in good) good.fault seconds_first.faultless ∙ ap (λ rs. interval_lines (ordered_runs order 0 All rs)) seconds_first.items
+  second_is = grind (arith, other_input, (report_there (Merge 0 All) alone chromosomes genome))
 
   second_input : IsInput order (of_second (Merge 0 All) inputs) (map three_columns runs)
   second_input = grind (arith, second_is, merge_back, order_total, good_are_said, placed_good)
 
-  module _ (shape : Shape) (see : SeesBases shape) (first_none : (bed_good First order inputs.first).fault ≡ None) where
-    merged_fault : (met_within order shape any_overlap None (bed_good First order inputs.first) (bed_good Second order (whole_text (of_second (Merge 0 All) inputs)))).fault ≡ None
-    merged_fault = met_none order shape any_overlap (bed_good First order inputs.first) (bed_good Second order (whole_text (of_second (Merge 0 All) inputs))) first_none (second_input.faultless Second)
+  merged_lines : (shape : Shape) → SeesBases shape → (first : List Feature) → intersect shape any_overlap first (map three_columns runs) ≡ intersect shape any_overlap first seconds
+  merged_lines shape see first =
+      sym (intersect_sees shape see first seconds (map three_columns runs) (good_are_said Second order (or_empty inputs.second)) (subst (AllByRecursion IsSaid) (second_input.records_are Second) (good_are_said Second order (whole_text (of_second (Merge 0 All) inputs))))
+      (λ name. grind (arith, all_so, good_are_said, all_counted, back, run_spans, order_total, placed_good, same_sym, runs_cover)))
 
-    merged_lines : intersect shape any_overlap (first_records chromosomes inputs) (items_in (bed_good Second order (whole_text (of_second (Merge 0 All) inputs)))) ≡ intersect shape any_overlap (first_records chromosomes inputs) seconds
-    merged_lines =
-        sym (intersect_sees shape see (first_records chromosomes inputs) seconds (items_in (bed_good Second order (whole_text (of_second (Merge 0 All) inputs)))) (good_are_said Second order (or_empty inputs.second)) (good_are_said Second order (whole_text (of_second (Merge 0 All) inputs)))
-        (λ name. subst (λ rs. SameCover (spans_on name (intervals_of seconds)) (spans_on name (intervals_of rs))) (sym (second_input.records_are Second)) (grind (arith, all_so, good_are_said, all_counted, back, run_spans, order_total, placed_good, same_sym, runs_cover))))
+pub nones : (shape : Shape) (rule : HitRule) (held : Option ℕ) (inputs : Inputs) (chromosomes : Option (List Entry))
+    → (met_within (order_in_use chromosomes) shape rule held (bed_good First (order_in_use chromosomes) inputs.first) (bed_good Second (order_in_use chromosomes) (or_empty inputs.second))).fault ≡ None
+    → ((bed_good First (order_in_use chromosomes) inputs.first).fault ≡ None) × ((bed_good Second (order_in_use chromosomes) (or_empty inputs.second)).fault ≡ None)
+nones shape rule held inputs chromosomes e = met_faultless (order_in_use chromosomes) shape rule held (bed_good First (order_in_use chromosomes) inputs.first) (bed_good Second (order_in_use chromosomes) (or_empty inputs.second)) e
 
-    intersect_merged : RunWrites (Intersect shape any_overlap None) (with_second_input (Merge 0 All) inputs) (intersect shape any_overlap (first_records chromosomes inputs) seconds)
-    intersect_merged = sweeps_from (Intersect shape any_overlap None) (with_second_input (Merge 0 All) inputs) chromosomes (intersect shape any_overlap (first_records chromosomes inputs) seconds) genome merged_fault
-        (λ well. intersect_whole shape any_overlap None (with_second_input (Merge 0 All) inputs) chromosomes well ∙ merged_lines)
-
-  subtract_merged : (bed_good First order inputs.first).fault ≡ None → RunWrites (Subtract false any_overlap None) (with_second_input (Merge 0 All) inputs) (intersect Pieces any_overlap (first_records chromosomes inputs) seconds)
-  subtract_merged first_none = sweeps_from (Subtract false any_overlap None) (with_second_input (Merge 0 All) inputs) chromosomes (intersect Pieces any_overlap (first_records chromosomes inputs) seconds) genome (merged_fault Pieces pieces_see first_none)
-      (λ well. subtract_whole false any_overlap None (with_second_input (Merge 0 All) inputs) chromosomes well ∙ merged_lines Pieces pieces_see first_none)
-
-module _ (shape : Shape) (held : Option ℕ) (inputs : Inputs) (chromosomes : Option (List Entry)) where
-  pub nones : ((met_within (order_in_use chromosomes) shape any_overlap held (bed_good First (order_in_use chromosomes) inputs.first) (bed_good Second (order_in_use chromosomes) (or_empty inputs.second))).fault ≡ None)
-      → ((bed_good First (order_in_use chromosomes) inputs.first).fault ≡ None) × ((bed_good Second (order_in_use chromosomes) (or_empty inputs.second)).fault ≡ None)
-  nones e = met_faultless (order_in_use chromosomes) shape any_overlap held (bed_good First (order_in_use chromosomes) inputs.first) (bed_good Second (order_in_use chromosomes) (or_empty inputs.second)) e
-
-  by_intersect : (both : Bool) → SeesBases shape → RunsWithoutFault (Intersect shape (one_base both) held) inputs chromosomes → RunWrites (Intersect shape (one_base both) None) (with_second_input (Merge 0 All) inputs) (report_of (Intersect shape (one_base both) held) inputs).output
-  by_intersect both see well =
-      let order = order_in_use chromosomes in
-      let firsts = first_records chromosomes inputs in
-      let seconds = second_records chromosomes inputs in
-      let none = met_faultless order shape (one_base both) held (bed_good First order inputs.first) (bed_good Second order (or_empty inputs.second)) (well_there (Intersect shape (one_base both) held) inputs chromosomes well) in
-      let merged = intersect_merged inputs chromosomes well.genome none.1 shape see none.0 in
-      let merged_well : RunsWithoutFault (Intersect shape any_overlap None) (with_second_input (Merge 0 All) inputs) chromosomes = record { genome = well.genome; faultless = merged.faultless } in
-      let merged_none = met_faultless order shape any_overlap None (bed_good First order inputs.first) (bed_good Second order (whole_text (of_second (Merge 0 All) inputs))) (well_there (Intersect shape any_overlap None) (with_second_input (Merge 0 All) inputs) chromosomes merged_well) in
-      subst (RunWrites (Intersect shape (one_base both) None) (with_second_input (Merge 0 All) inputs)) (sym (intersect_whole shape (one_base both) held inputs chromosomes well ∙ one_base_lines both shape firsts seconds))
-      (sweeps_from (Intersect shape (one_base both) None) (with_second_input (Merge 0 All) inputs) chromosomes (intersect shape any_overlap firsts seconds) well.genome
-      (met_none order shape (one_base both) (bed_good First order inputs.first) (bed_good Second order (whole_text (of_second (Merge 0 All) inputs))) merged_none.0 merged_none.1)
-      (λ again. intersect_whole shape (one_base both) None (with_second_input (Merge 0 All) inputs) chromosomes again
-      ∙ one_base_lines both shape (first_records chromosomes (with_second_input (Merge 0 All) inputs)) (second_records chromosomes (with_second_input (Merge 0 All) inputs))
-      ∙ sym (intersect_whole shape any_overlap None (with_second_input (Merge 0 All) inputs) chromosomes merged_well) ∙ merged.output))
+by_intersect : (shape : Shape) (rule : HitRule) → ((first bs : List Feature) → intersect shape rule first bs ≡ intersect shape any_overlap first bs) → SeesBases shape → (held : Option ℕ) (inputs : Inputs) (chromosomes : Option (List Entry))
+    → RunsWithoutFault (Intersect shape rule held) inputs chromosomes → RunWrites (Intersect shape rule None) (with_second_input (Merge 0 All) inputs) (report_of (Intersect shape rule held) inputs).output
+by_intersect shape rule lines see held inputs chromosomes well =
+    let firsts = first_records chromosomes inputs in
+    let read = map three_columns (ordered_runs (order_in_use chromosomes) 0 All (second_records chromosomes inputs)) in
+    let none = nones shape rule held inputs chromosomes (well_there (Intersect shape rule held) inputs chromosomes well) in
+    subst (RunWrites (Intersect shape rule None) (with_second_input (Merge 0 All) inputs))
+    (lines firsts read ∙ merged_lines inputs chromosomes well.genome none.1 shape see firsts ∙ sym (intersect_whole shape rule held inputs chromosomes well ∙ lines firsts (second_records chromosomes inputs)))
+    (intersect_on (Merge 0 All) inputs chromosomes read shape rule well.genome (second_input inputs chromosomes well.genome none.1) none.0)
 
 pub once_merged : merged_second_once
-once_merged both held inputs chromosomes well = by_intersect Once held inputs chromosomes both once_sees well
+unfolding lines_for
+once_merged both = grind (arith, by_intersect, one_base_lines, first_covered, all_hits, hit_back, hit_to, same_sym)
 
 pub missing_merged : merged_second_missing
-missing_merged both held inputs chromosomes well = by_intersect Missing held inputs chromosomes both missing_sees well
+unfolding lines_for
+missing_merged both = grind (arith, by_intersect, one_base_lines, first_covered, all_hits, hit_back, hit_to, same_sym)
 
 pub subtracts_merged : merged_second_subtract
-subtracts_merged held inputs chromosomes well = grind (arith, (nones Pieces held inputs chromosomes (well_there (Subtract false any_overlap held) inputs chromosomes well)), (well_there (Subtract false any_overlap held) inputs chromosomes well), (subtract_whole false any_overlap held inputs chromosomes well), subtract_merged)
+unfolding report_of
+subtracts_merged held inputs chromosomes well = grind (arith, (by_intersect Pieces any_overlap (λ first bs. refl) pieces_see held inputs chromosomes))
 
 -- The blocks of records that are contiguous: one for each chromosome.
 
@@ -368,12 +330,9 @@ module _ (rs ss : List Feature) where
   left_same left (n ∷ ns) = left_same (left_by left n) ns
 
   module _ (one : AreContiguous (intervals_of rs)) (two : AreContiguous (intervals_of ss)) (chroms : chromosomes (intervals_of ss) ≡ chromosomes (intervals_of rs)) where
-    blocks_two : blocks ss ≡ map (block_of ss) (chromosomes (intervals_of rs))
-    blocks_two = together_blocks ss two ∙ ap (map (block_of ss)) chroms
-
     -- they mask the same positions of each sequence
     pub own_alike : ((name : List ℕ) → SameCover (spans_on name (intervals_of rs)) (spans_on name (intervals_of ss))) → (names : List (List ℕ)) (p : ℕ) → list_any (record_covers p) (own_records names rs) ≡ list_any (record_covers p) (own_records names ss)
-    own_alike same names p = grind (arith, (together_blocks rs one), (own_same p same (Some names) (chromosomes (intervals_of rs))), blocks_two)
+    own_alike same names p = grind (arith, (own_same p same (Some names) (chromosomes (intervals_of rs))), together_blocks)
 
     -- and leave the same names
     pub leave_alike : (names : List (List ℕ)) → leave (Some names) None ss ≡ leave (Some names) None rs

@@ -142,7 +142,7 @@ places_of_spans : (name : List ℕ) (spans : List Span)
     → map (level_place name) (map (level_on 0) spans) ≡ map (placed_on name) spans
 unfolding level_place
 places_of_spans name [] = refl
-places_of_spans name (s ∷ ss) = ap (λ xs. placed_on name s ∷ xs) (places_of_spans name ss)
+places_of_spans name (s ∷ ss) = grind (arith, (places_of_spans name ss))
 
 gaps_on_all : (records : List Feature) (entries : List Entry)
     → flat_map (gaps_on (intervals_of records)) entries

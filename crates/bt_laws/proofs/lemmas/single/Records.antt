@@ -1,18 +1,18 @@
 -- Lemmas on lines, records and their orders.
-use Rattle.bt_lines.proofs.Std.{◌≡◌, ℕ, Bool, true, false, cond, List, [], ◌∷◌, Option, Some, None, Result, Ok, Err, refl, sym, ap, ◌∙◌, ⊤, ◌≢◌, IfSome, length, arith, zero, suc, ◌+◌, ◌<◌, ◌≤◌, take, ◌++◌, append_assoc, append-nil, IfErr, decimal, lt-ltb, decimal_is_IsNumeral, digit_from_value, is_ascii_digit, AllByRecursion, list_all, AllDigits, digits_value, false≢true, nat_cmp_total, tied_itself, slice_cmp, nat_cmp, ordering_then, IsTrue, ◌⊎◌, inl, inr, bytes_eq, or_parts, or_from, digit_glyph, digits_onto, ◌/◌, ◌%◌, All-from_recursion, codes}
+use Rattle.bt_lines.proofs.Std.{◌≡◌, ℕ, Bool, true, false, cond, List, [], ◌∷◌, Option, Some, None, Result, Ok, Err, refl, sym, ap, ◌∙◌, ⊤, length, arith, zero, suc, ◌+◌, ◌<◌, ◌≤◌, take, ◌++◌, append_assoc, append-nil, IfErr, decimal, lt-ltb, decimal_is_IsNumeral, digit_from_value, is_ascii_digit, AllByRecursion, list_all, AllDigits, IsTrue, ◌⊎◌, inl, inr, bytes_eq, or_parts, or_from, digit_glyph, digits_onto, ◌/◌, ◌%◌, All-from_recursion, codes}
 use Rattle.bt_lines.specs.model.Fault.{FaultValue}
-use Rattle.bt_lines.specs.model.Lines.{lines_handed, TextLine, pieces, value_of, text_lines}
+use Rattle.bt_lines.specs.model.Lines.{TextLine, pieces, value_of, text_lines}
 use Rattle.bt_lines.specs.calls.Line.{AreNumbered}
 use Rattle.bt_lines.specs.declared.fault.Input.{Input}
 use Rattle.bt_lines.specs.declared.fault.Kind.{Kind}
-use Rattle.bt_lines.specs.declared.fault.Kind.TheVariants.{OutOfOrder, UnknownChrom}
-use Rattle.bt_bed.specs.model.Feature.{Feature, Interval, last_from}
-use Rattle.bt_bed.specs.model.BedLine.{is_header, columns_say, not_skipped, record_of, ends_word, first_word, bed_text, kept_columns}
+use Rattle.bt_lines.specs.declared.fault.Kind.TheVariants.{UnknownChrom}
+use Rattle.bt_bed.specs.model.Feature.{Interval, last_from}
+use Rattle.bt_bed.specs.model.BedLine.{record_of, ends_word, first_word, kept_columns}
 use Rattle.bt_bed.specs.calls.Features.{columns_in, said_are_features, IsName, is_kept}
-use Rattle.bt_bed.specs.model.Good.{good_from, line_says, said_after, block_format, bed_format}
+use Rattle.bt_bed.specs.model.Good.{good_from, line_says, block_format, bed_format}
 use Rattle.bt_bed.specs.model.Meeting.{Rule, join_report, written}
 use Rattle.bt_laws.specs.Records.{blocks_know_each_chromosome, good_stand_on_lines, first_lines_have_the_first, good_in_blocks_are_non_empty, good_in_blocks_stand_on_lines, genome_names_are_distinct, first_lines_make_entries, read_are_rewritten, written_are_read, StaysDecided, bytes_know_each_chromosome, first_difference_decides, prefixes_come_first, shared_are_common, stretches_are_one, contiguous_grows}
-use Rattle.bt_bed.specs.model.Sorted.{Locus, block_sorting, sorting_of, has_records}
+use Rattle.bt_bed.specs.model.Sorted.{Locus, sorting_of, has_records}
 use Rattle.bt_bed.specs.calls.Orders.{AreContiguous, AreDistinct}
 use Rattle.bt_lines.proofs.lemmas.reader.lines.TextLemmas.{lines_are_numbered, IsColumn, IsInside}
 use Rattle.bt_bed.proofs.lemmas.read.good.SaidLemmas.{ascend_from, first_from, within_from}
@@ -22,8 +22,7 @@ use Rattle.bt_bed.specs.model.Order.{byte_order}
 use Rattle.bt_bed.specs.model.Genome.{Entry, genome_names, genome_from, genome_with, new_entry, entry_of, with_entry}
 use Rattle.bt_bed.proofs.lemmas.order.TableLemmas.{distinct_push, is_new, ok_entries}
 use Rattle.bt_bed.proofs.lemmas.read.ColumnLemmas.{kept_again}
-use Rattle.bt_bed.proofs.lemmas.parse.FeatureLemmas.{columns_of_line, record_said, said_is_feature, said_stands, whole, of_word, kept_is_cut, pieces_are_columns}
-use Rattle.std.specs.declared.cmp.Ordering.TheVariants.{Less}
+use Rattle.bt_bed.proofs.lemmas.parse.FeatureLemmas.{columns_of_line, record_said, said_is_feature, said_stands, whole, of_word, kept_is_cut, pieces_are_columns, header_before_tab}
 use Rattle.bt_bed.proofs.lemmas.parse.NameLemmas.{name_ne, name_ne-sym}
 use Rattle.bt_bed.proofs.lemmas.order.OrderLemmas.{has_records-last}
 use Rattle.std.specs.Fmt.{digits}
@@ -42,42 +41,14 @@ abbrev Tells : Option FaultValue → Type 0
 Tells None = ⊤
 Tells (Some fault) = is_other fault.kind ≡ true
 
-columns_other : (columns : List (List ℕ)) → Other (columns_say columns)
-unfolding is_other
-columns_other columns = grind arith
-
-skipped_other : (r : Result Feature Kind) → Other r → Other (not_skipped r)
-skipped_other r h = grind arith
-
-header_other : (t : Bool) (r : Result (Option Feature) Kind) → Other r → Other (cond t (Ok None) r)
-header_other t r h = grind arith
-
-record_other : (text : List ℕ) → Other (record_of text)
-unfolding record_of
-record_other text = header_other (is_header text) (not_skipped (columns_say (pieces 9 text))) (skipped_other (columns_say (pieces 9 text)) (columns_other (pieces 9 text)))
-
-placed_other : (t : Bool) (r : Feature) → Other (cond t (Err OutOfOrder) (Ok (Some r)))
-unfolding is_other
-placed_other t r = grind arith
-
-said_other : (last : Option Locus) (said : Result (Option Feature) Kind) → Other said → Other (said_after block_sorting last said)
-said_other last said h = grind (arith, placed_other)
-
-line_other : (last : Option Locus) (text : List ℕ) → Other (line_says block_sorting last text)
-unfolding line_says
-line_other last text = said_other last (record_of text) (record_other text)
-
 from_other : (input : Input) (last : Option Locus) (lines : List TextLine) → Tells (good_from block_format input last lines).fault
-unfolding good_from
+unfolding good_from line_says record_of is_other
 from_other input last [] = tt
-from_other input last (line ∷ lines) = grind (arith, (line_other last line.text), (λ (now : Option Locus). from_other input now lines))
-
-never_unknown : (fault : Option FaultValue) → Tells fault → IfSome fault (λ fault. fault.kind ≢ UnknownChrom)
-unfolding is_other
-never_unknown fault h = grind arith
+from_other input last (line ∷ lines) = grind (arith, (λ (now : Option Locus). from_other input now lines))
 
 pub each_known : blocks_know_each_chromosome
-each_known = grind (arith, never_unknown, from_other)
+unfolding is_other
+each_known = grind (arith, from_other)
 
 -- Lemmas on the lines and the bases of good records.
 
@@ -94,7 +65,7 @@ pub first_have_first : first_lines_have_the_first
 first_have_first input order count text past rest fault e up beyond = grind (arith, first_from, (lines_are_numbered 1 text))
 
 pub good_blocks_non_empty : good_in_blocks_are_non_empty
-good_blocks_non_empty input handed = non_empty_from input block_sorting None (lines_handed handed)
+good_blocks_non_empty input handed = grind (arith, non_empty_from)
 
 pub good_blocks_on_lines : good_in_blocks_stand_on_lines
 good_blocks_on_lines input text =
@@ -132,7 +103,7 @@ distinct_genome input lines entries e = distinct_from input [] lines tt entries 
 first_with : (input : Input) (count number : ℕ) (names : List (List ℕ)) (said : Result (Option Entry) Kind) (whole taken : List (List ℕ) → Result (List Entry) FaultValue) → number ≤ count
     → ((now : List (List ℕ)) → IfErr (whole now) (IsFaultBeyond count) → (entries : List Entry) × (taken now ≡ Ok entries))
     → IfErr (genome_with input number names said whole) (IsFaultBeyond count) → (entries : List Entry) × (genome_with input number names said taken ≡ Ok entries)
-first_with input count number names (Err kind) whole taken low h beyond = absurd (let high : count < number = beyond in omega arith)
+first_with input count number names (Err kind) whole taken low h beyond = grind arith
 first_with input count number names (Ok None) whole taken low h beyond = h names beyond
 first_with input count number names (Ok (Some entry)) whole taken low h beyond =
     let now = names ++ entry.name ∷ [] in
@@ -162,14 +133,6 @@ first_make_entries input count text beyond = first_entries_from input count coun
 digits_pass : (ds : List ℕ) → AllDigits 10 ds → list_all is_ascii_digit ds ≡ true
 digits_pass [] h = refl
 digits_pass (c ∷ cs) h = grind (arith, (digit_from_value c), (digits_pass cs h.1))
-
--- the digits of a number denote it
-value_of_text : (text : List ℕ) (n : ℕ) → 0 < length text → AllDigits 10 text → digits_value 10 text ≡ n → n ≤ 999999999999 → value_of text ≡ Some n
-unfolding value_of
-value_of_text text n some digits e small = grind (arith, digits_pass)
-
-value_of_decimal : (n : ℕ) → n ≤ 999999999999 → value_of (decimal n) ≡ Some n
-value_of_decimal n small = let d = decimal_is_IsNumeral n (omega arith) in value_of_text (decimal n) n d.0.0 d.0.1 d.1 small
 
 -- ---- a number's text has digits alone
 
@@ -210,23 +173,16 @@ pub said_feature : said_are_features
 said_feature text f e = said_is_feature text f (record_said text f e).1
 
 pub written_feature : written_are_read
-written_feature f is header = grind (arith, columns_of_line, line_columns, value_of_decimal, kept_again)
+unfolding value_of
+written_feature f is header = grind (arith, columns_of_line, line_columns, decimal_is_IsNumeral, digits_pass, kept_again)
 
 -- what follows a tab doesn't change the first word
 pub until_tab : (chrom tail : List ℕ) → first_word (chrom ++ 9 ∷ tail) ≡ first_word chrom
 until_tab [] tail = refl
 until_tab (byte ∷ chrom) tail = grind (arith, (of_word byte (chrom ++ 9 ∷ tail) (ends_word byte) refl), (until_tab chrom tail), (of_word byte chrom (ends_word byte) refl))
 
--- whether a line is a header is said before its first tab
-header_until_tab : (chrom one other : List ℕ) → is_header (chrom ++ 9 ∷ one) ≡ is_header (chrom ++ 9 ∷ other)
-header_until_tab [] one other = refl
-header_until_tab (byte ∷ chrom) one other = grind (arith, (until_tab (byte ∷ chrom) one), (until_tab (byte ∷ chrom) other))
-
-no_header_again : (text : List ℕ) (f : Feature) (between : List ℕ) → text ≡ (f.chrom ++ 9 ∷ between) ++ f.rest → is_header (bed_text f) ≡ is_header text
-no_header_again text f between e = grind (arith, append_assoc, header_until_tab)
-
 pub rewritten_feature : read_are_rewritten
-rewritten_feature text f e = grind (arith, (record_said text f e), written_feature, said_is_feature, no_header_again, said_stands)
+rewritten_feature text f e = grind (arith, (record_said text f e), written_feature, said_is_feature, append_assoc, header_before_tab, said_stands)
 
 -- Lemmas on what is written early of two inputs.
 
@@ -259,27 +215,24 @@ module _ {A L F : Type 0} where
 
 -- equal first bytes leave the others to decide
 same_first : (byte : ℕ) (left right : List ℕ) → byte_order.compare (byte ∷ left) (byte ∷ right) ≡ byte_order.compare left right
-same_first byte left right = ap (λ o. ordering_then o (slice_cmp nat_cmp left right)) (tied_itself nat_cmp_total byte)
-
-pub less_cmp : (a b : ℕ) → a < b → nat_cmp a b ≡ Less
-less_cmp a b h = rw (lt-ltb a b h) refl
+same_first byte left right = grind arith
 
 pub prefix_first : prefixes_come_first
 prefix_first [] byte rest = refl
-prefix_first (b ∷ name) byte rest = same_first b name (name ++ byte ∷ rest) ∙ prefix_first name byte rest
+prefix_first (b ∷ name) byte rest = grind (arith, same_first, (prefix_first name byte rest))
 
 pub difference_decides : first_difference_decides
-difference_decides [] low high left right less = ap (λ o. ordering_then o (slice_cmp nat_cmp left right)) (less_cmp low high less)
+difference_decides [] low high left right less = grind arith
 difference_decides (b ∷ front) low high left right less = grind (arith, (difference_decides front low high left right less))
 
 pub know_each : bytes_know_each_chromosome
-know_each kind of_bed is = let unknown = of_bed.1 is in false≢true (sym unknown.1)
+know_each kind of_bed is = grind arith
 
 -- Lemmas on the bases of intervals.
 
 -- the shared bases are the common ones
 pub common_bases : shared_are_common
-common_bases a b chrom p = (λ (first, second). grind arith, λ both. ((grind arith), grind arith))
+common_bases a b chrom p = grind arith
 
 pub one_list : stretches_are_one
 one_list test xs ys a b = stretches_are_same (λ p. IsTrue (test p)) xs ys a b

@@ -43,13 +43,9 @@ no_fault-all : (table : Table) (at : ℕ) (words : List Word) → word_fault tab
 unfolding word_fault
 no_fault-all table at words e = grind (arith, (front table words), drop-append_seam, rules)
 
-all-no_fault : (table : Table) (at : ℕ) (words : List Word)
-    → words_spelled (items_of table words) ≡ words → word_fault table at words ≡ None
-unfolding word_fault
-all-no_fault table at words e = grind (arith, drop-length)
-
 pub fault-of_left : FaultIsOfWhatIsLeft
-fault-of_left table at words = (no_fault-all table at words, all-no_fault table at words)
+unfolding word_fault
+fault-of_left table at words = grind (arith, no_fault-all, drop-length)
 
 other_text : (a b : Word) (same : Bool) → bytes_eq a b ≡ same → a ≢ b → same ≡ false
 other_text a b same e h = search rules

@@ -4,11 +4,10 @@ use Rattle.bt_bed.specs.model.Feature.{Feature, Span}
 use Rattle.bt_seq.specs.model.Masked.{Block, blocks_by, names_behind, owned_from, mask_rule, SequenceLine}
 use Rattle.bt_seq.specs.calls.MaskState.{left_at_last}
 use Rattle.bt_laws.specs.Sequences.{owners_stay, owners_were, AreBetween, blocks_are_within, unskipped_are_one_block, Divides, division_is_found, division_is_one, is_operation, operations_are_divided, part_bytes, early_mask_rule, faultless_are_masked, masked_are_a_prefix, AreApart, AreOfChrom, DividesAt, blocks_are_maximal_runs, items_of, owners_are_first, unowned_find_no_name, quiet_records_are_taken, taken_are_first}
-use Rattle.bt_seq.specs.model.Alignment.{is_skip, with_bases, covered_by, reference_length, Part, each_operation, is_letter, onto_part, operation_of, operations_in, parts_of, with_part}
+use Rattle.bt_seq.specs.model.Alignment.{is_skip, with_bases, covered_by, reference_length, Part, each_operation, is_letter, onto_part, operations_in, parts_of, with_part}
 use Rattle.bt_seq.specs.declared.sam.cigar.Operation.{Operation}
 use Rattle.bt_seq.proofs.lemmas.Sam.{blocks_open, open_blocks, skip_covers, digits_no_letters, parts_cut}
-use Rattle.std.specs.Prelude.{option_and_then}
-use Rattle.bt_lines.specs.model.Lines.{is_number, value_of}
+use Rattle.bt_lines.specs.model.Lines.{value_of}
 use Rattle.bt_bed.specs.model.Good.{Good, items_in}
 use Rattle.bt_bed.specs.calls.Orders.{AreInBlocks}
 use Rattle.bt_bed.proofs.lemmas.Definitions.{all_written}
@@ -26,7 +25,7 @@ behind_more name [] more rest e = cc
 behind_more name (n ∷ ns) more rest e = grind (arith, (behind_more name ns more rest))
 
 -- fewer names come after the one that is found than there are
-behind_fewer : (name : List ℕ) (names rest : List (List ℕ)) → names_behind name names ≡ Some rest → length rest < length names
+pub behind_fewer : (name : List ℕ) (names rest : List (List ℕ)) → names_behind name names ≡ Some rest → length rest < length names
 behind_fewer name [] rest e = cc
 behind_fewer name (n ∷ ns) rest e = grind (arith, (behind_fewer name ns rest))
 
@@ -37,7 +36,7 @@ record Within (name : List ℕ) (names more all : List (List ℕ)) : Type 0 wher
   found : names_behind name names ≡ Some left
 
 behind_within : (name : List ℕ) (names more all : List (List ℕ)) → length more ≤ length all → names_behind name (names ++ more) ≡ Some all → Within name names more all
-behind_within name [] more all least e = absurd (let few = behind_fewer name more all e in omega (arith, few, least))
+behind_within name [] more all least e = grind (arith, behind_fewer)
 behind_within name (n ∷ ns) more all least e = grind (arith, (behind_within name ns more all least))
 
 -- ---- blocks
@@ -50,11 +49,11 @@ module _ {A : Type 0} where
   at_last o bs = left_at_last o (owned_from o bs)
 
   last_fewer : (rest : List (List ℕ)) (bs : List (Block A)) (names : List (List ℕ)) → at_last (Some names) bs ≡ Some rest → length rest ≤ length names
-  last_fewer rest [] names e = let same : names ≡ rest = cc in omega (arith, ap length same)
+  last_fewer rest [] names e = grind arith
   last_fewer rest (b ∷ bs) names e = grind (arith, none_at_last, behind_fewer, (names_behind b.chrom names), (last_fewer rest bs))
 
   last_more : (more rest : List (List ℕ)) (bs : List (Block A)) (names : List (List ℕ)) → at_last (Some names) bs ≡ Some rest → at_last (Some (names ++ more)) bs ≡ Some (rest ++ more)
-  last_more more rest [] names e = let same : names ≡ rest = cc in ap (λ l. Some (l ++ more)) same
+  last_more more rest [] names e = grind arith
   last_more more rest (b ∷ bs) names e = grind (arith, none_at_last, behind_more, (names_behind b.chrom names), (last_more more rest bs))
 
   last_first : (more rest : List (List ℕ)) (bs : List (Block A)) (names : List (List ℕ)) → at_last (Some (names ++ more)) bs ≡ Some (rest ++ more) → at_last (Some names) bs ≡ Some rest
@@ -67,10 +66,10 @@ module _ {A : Type 0} where
       found all is e = behind_within b.chrom names more all (omega (arith, last_fewer (rest ++ more) bs all e, length-append rest more)) is
 
 pub owners_stay_so : owners_stay
-owners_stay_so names more records rest e = last_more more rest (blocks_by (λ (r : Feature). r.chrom) records) names e
+owners_stay_so names more records rest e = grind (arith, last_more)
 
 pub owners_were_so : owners_were
-owners_were_so names more records rest e = last_first more rest (blocks_by (λ (r : Feature). r.chrom) records) names e
+owners_were_so names more records rest e = grind (arith, last_first)
 
 -- The blocks of an alignment ascend, and lie within it.
 
@@ -102,7 +101,7 @@ open_unskipped start stop (operation ∷ operations) all =
     grind (arith, (sum_by-cons covered_by operation operations), (open_unskipped start (stop + covered_by operation) operations p.1))
 
 pub one_block : unskipped_are_one_block
-one_block start operations all = blocks_open start operations ∙ open_unskipped start start operations all
+one_block start operations all = grind (arith, blocks_open, open_unskipped)
 
 -- A CIGAR's division into numbers and letters: there is one at most, and it is the one that is found.
 
@@ -120,7 +119,7 @@ one_division text parts others p q = grind (arith, (parts_found text parts p), (
 
 pub division_found : division_is_found
 unfolding operations_in
-division_found text parts p = ap (option_and_then each_operation) (parts_found text parts p)
+division_found text parts p = grind (arith, parts_found)
 
 -- the parts that are found_parts are all bytes of the text
 byte_whole : (byte : ℕ) (bytes : List ℕ) (found_parts : Option (List Part)) (parts : List Part) → onto_part byte found_parts ≡ Some parts
@@ -135,7 +134,7 @@ whole_by byte bytes true parts e h = grind (arith)
 whole_by byte bytes false parts e h = byte_whole byte bytes (parts_of bytes) parts e h
 
 whole : (text : List ℕ) (parts : List Part) → parts_of text ≡ Some parts → flat_map part_bytes parts ≡ text
-whole [] parts e = let is : [] ≡ parts = cc in ap (flat_map part_bytes) (sym is)
+whole [] parts e = grind arith
 whole (byte ∷ bytes) parts e = whole_by byte bytes (is_letter byte) parts e (λ others h. whole bytes others h)
 
 -- each ends with a letter
@@ -152,14 +151,10 @@ lettered : (text : List ℕ) (parts : List Part) → parts_of text ≡ Some part
 lettered [] parts e = let is : [] ≡ parts = cc in ap letters (sym is)
 lettered (byte ∷ bytes) parts e = grind (arith, (parts_of bytes), byte_lettered, (lettered bytes))
 
-is_number_by : (b : Bool) (digits : List ℕ) → is_number digits ≡ b → (value_of digits ≡ None → ⊥) → b ≡ true
-unfolding value_of
-is_number_by b digits is h = grind arith
-
 each_is : (parts : List Part) (operations : List Operation) → each_operation parts ≡ Some operations → letters parts ≡ true → list_all is_operation parts ≡ true
+unfolding value_of
 each_is [] operations e h = refl
-each_is (part ∷ parts) operations e h =
-    grind (arith, (is_number_by (is_number part.digits) part.digits refl), (operation_of part), (each_operation parts), (each_is parts))
+each_is (part ∷ parts) operations e h = grind (arith, (each_is parts))
 
 pub divided : operations_are_divided
 unfolding operations_in
@@ -214,9 +209,9 @@ module _ (name : List ℕ) where
       let d = later is in
       (n ∷ d.0, ap (λ (names : List (List ℕ)). n ∷ names) d.1, (other_name n name e, d.2))
 
-  divides : (names behind : List (List ℕ)) → names_behind name names ≡ Some behind → DividesAt name names behind
+  pub divides : (names behind : List (List ℕ)) → names_behind name names ≡ Some behind → DividesAt name names behind
   divides [] behind is = cc
-  divides (n ∷ ns) behind is = divides_with n ns behind (divides ns behind) (bytes_eq n name) refl is
+  divides (n ∷ ns) behind is = grind (arith, divides_with, (divides ns behind))
 
   found : (before behind : List (List ℕ)) → AllByRecursion (λ (other : List ℕ). other ≢ name) before → names_behind name (before ++ name ∷ behind) ≡ Some behind
   found [] behind others = rw ((bytes_decides name name).1 refl) refl

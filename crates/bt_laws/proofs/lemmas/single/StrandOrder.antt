@@ -1,5 +1,5 @@
 -- The runs of several strands come in the order of their first records.
-use Rattle.bt_lines.proofs.Std.{AllByRecursion, rules, ◌≡◌, ℕ, zero, suc, ◌+◌, ◌<◌, ◌≤◌, inl, inr, refl, sym, ap, ap₂, ◌∙◌, arith, subst, List, [], ◌∷◌, ◌++◌, append_assoc, append-nil, length, map, Bool, true, false, Some, IsTrue, find, list_any, position_or_len, IsStrictlyIncreasing, cases_Bool, map-append, ◌||◌, or_parts, bytes_eq}
+use Rattle.bt_lines.proofs.Std.{AllByRecursion, rules, ◌≡◌, ℕ, zero, suc, ◌<◌, ◌≤◌, inl, inr, refl, sym, ap, ap₂, ◌∙◌, arith, subst, List, [], ◌∷◌, ◌++◌, append_assoc, append-nil, length, map, Bool, true, false, Some, IsTrue, find, list_any, position_or_len, IsStrictlyIncreasing, cases_Bool, map-append, or_parts, bytes_eq}
 use Rattle.bt_bed.specs.model.Feature.{Feature, interval_of, intervals_of, Interval}
 use Rattle.bt_bed.specs.model.Sorted.{Locus, locus_of}
 use Rattle.bt_bed.specs.calls.Orders.{ArePlaced, IsPlacedBefore, IsUpTo, IsTotal, AreDistinct}
@@ -18,11 +18,6 @@ use Rattle.bt_bed.specs.inside.RankTotal.{ranks_total}
 
 -- the first element that passes
 module _ {A : Type 0} where
-  found_later : (test : A → Bool) (x : A) (xs : List A) → test x ≡ false
-      → (find test (x ∷ xs) ≡ find test xs)
-      × (position_or_len test (x ∷ xs) ≡ 1 + position_or_len test xs)
-  found_later test x xs f = grind arith
-
   -- it stays the first if more come after it, also by a test that agrees
   found_same : (test other : A → Bool) (xs ys : List A) → AllByRecursion (λ x. test x ≡ other x) xs
       → Some_of (λ x. other x ≡ true) xs
@@ -235,7 +230,7 @@ put_all P order name (n ∷ ns) one all = grind (arith, (put_all P order name ns
 
 pub ordered_all : (P : List ℕ → Type 0) (order : Order) (names : List (List ℕ)) → AllByRecursion P names → AllByRecursion P (runs_in_order order names)
 ordered_all P order [] all = tt
-ordered_all P order (n ∷ ns) all = put_all P order n (runs_in_order order ns) all.0 (ordered_all P order ns all.1)
+ordered_all P order (n ∷ ns) all = grind (arith, put_all, (ordered_all P order ns all.1))
 
 module _ (order : Order) where
   among_put : (name x : List ℕ) (ns : List (List ℕ)) → is_among (put_in_order order name ns) x ≡ is_among (name ∷ ns) x
@@ -244,7 +239,7 @@ module _ (order : Order) where
 
   among_order : (x : List ℕ) (ns : List (List ℕ)) → is_among (runs_in_order order ns) x ≡ is_among ns x
   among_order x [] = refl
-  among_order x (n ∷ ns) = among_put n x (runs_in_order order ns) ∙ ap (λ b. bytes_eq n x || b) (among_order x ns)
+  among_order x (n ∷ ns) = grind (arith, among_put, (among_order x ns))
 
   ascending_put : IsTotal order → (name : List ℕ) (ns : List (List ℕ)) → IsTrue (order.knows name) → AreKnown order ns
       → is_among ns name ≡ false → AreSortedNames order ns → AreSortedNames order (put_in_order order name ns)
@@ -256,7 +251,7 @@ module _ (order : Order) where
   ascending_order total (n ∷ ns) known distinct = grind (arith, (ascending_order total ns known.1 distinct.1), ascending_put, (ordered_all (λ name. IsTrue (order.knows name)) order ns known.1), among_order)
 
 pub names_in_order : names_come_in_order
-names_in_order order names total known distinct = (ascending_order order total names known distinct, λ name. among_order order name names)
+names_in_order order names total known distinct = grind (arith, ascending_order, among_order)
 
 pub file_ordered : file_runs_are_ordered
 file_ordered names gap strand records distinct placed = grind (arith, (in_file_order names gap strand records distinct placed), (ordered_come (rank_order names) gap strand records (ranks_total names) placed))

@@ -1,5 +1,5 @@
 -- Lemmas on what a sweep decides, takes and writes.
-use Rattle.bt_lines.proofs.Std.{arith, false, List, [], ◌∷◌, ◌++◌, Option, refl, sym, ◌∙◌, not, ◌||◌, ap, AllByRecursion, or_left, list_any-append, inl, inr, ◌≡◌, Bool, true, cond, append_assoc, IsTrue, list_all, take_while, and_parts, or_from, cases_Bool, take_while-cons, ℕ, Some, filter, length, map, nat_lt, find, false≢true, and_from, lt-ltb, ltb-true}
+use Rattle.bt_lines.proofs.Std.{arith, false, List, [], ◌∷◌, ◌++◌, Option, refl, sym, ◌∙◌, not, ◌||◌, ap, AllByRecursion, list_any-append, inl, inr, ◌≡◌, Bool, true, cond, append_assoc, IsTrue, list_all, take_while, and_parts, or_from, cases_Bool, take_while-cons, ℕ, Some, filter, length, map, nat_lt, find, false≢true, and_from, lt-ltb, ltb-true}
 use Rattle.bt_lines.specs.model.Fault.{FaultValue}
 use Rattle.bt_bed.specs.model.Feature.{Feature, intervals_of}
 use Rattle.bt_bed.specs.model.BedLine.{fault_at_line}
@@ -24,7 +24,7 @@ use Rattle.bt_bed.proofs.lemmas.Definitions.{all_stop, met_fault_stop, met_lines
 -- Lemmas on what a sweep decides and writes early.
 
 pub stays_decided : decided_stays
-stays_decided order a bs more e = list_any-append (decides order a) bs more ∙ or_left (decided order a bs) (decided order a more) e
+stays_decided order a bs more e = grind (arith, list_any-append)
 
 all_stay : (order : Order) (shape : Shape) (rule : HitRule) (first second more : List Feature) (fault : Option FaultValue) → IsTotal order → ArePlaced order (intervals_of first) → ArePlaced order (intervals_of (second ++ more))
     → AllByRecursion (StaysDecided (early_rule order shape rule second) (sweep_rule order shape rule (second ++ more) fault)) first
@@ -56,7 +56,7 @@ leaves_none order (a ∷ given) taken b total pg pb all =
 
 module _ (p : Feature → Bool) (b : Feature) (more : List Feature) (stops : p b ≡ false) where
   before_stop : (xs : List Feature) → list_all p xs ≡ true → take_while p (xs ++ b ∷ more) ≡ xs
-  before_stop [] all = take_while-cons p b more ∙ ap (λ c. cond c (b ∷ take_while p more) []) stops
+  before_stop [] all = grind arith
   before_stop (x ∷ xs) all = grind (arith, (take_while-cons p x (xs ++ b ∷ more)), (before_stop xs (and_parts (p x) (list_all p xs) all).1))
 
 pub first_taken : taken_are_first

@@ -1,4 +1,4 @@
-use Rattle.bt_laws.proofs.lemmas.parts.PartShards.{merge_genome_parts}
+use Rattle.bt_laws.proofs.lemmas.parts.PartOwnGenomes.{merge_genome_parts}
 use Rattle.bt_laws.proofs.lemmas.parts.PartTexts.{merge_parts}
 use Rattle.bt_laws.proofs.parts.one_input.parts_of_merge_add_up.Goals as goal
 

@@ -4,7 +4,7 @@ use Rattle.bt_lines.specs.model.Lines.{lines_from, value_of}
 use Rattle.bt_bed.specs.model.Good.{good_from, line_says}
 use Rattle.bt_bed.specs.model.BedLine.{record_of}
 use Rattle.bt_tool.specs.model.Report.{report_of}
-use Rattle.bt_laws.proofs.lemmas.same.MaskSorted.{by_sorted}
+use Rattle.bt_laws.proofs.lemmas.same.MaskTwice.{by_sorted}
 use Rattle.bt_laws.proofs.same.mask_laws.two_beds_may_be_one.Goals as goal
 
 pub returns-clause-sorted : goal.returns-clause-sorted

@@ -1,4 +1,4 @@
-use Rattle.bt_laws.proofs.lemmas.pipes.DepthParts.{deep_depths, zero_depths}
+use Rattle.bt_laws.proofs.lemmas.same.LengthLaws.{deep_depths, zero_depths}
 use Rattle.bt_laws.proofs.same.same_runs.depths_leave_the_gaps.Goals as goal
 
 pub returns-clause-zero : goal.returns-clause-zero
