@@ -23,6 +23,9 @@ open_files() {
     [ "$dk_opened" = $# ] && { true < "/dev/fd/$dk_free"; } 2> /dev/null
 }
 
+# has_parts NAME..: whether these files of the installation are there, for awk
+has_parts() { for dk_file; do [ -s "$dk_files/$dk_file" ] && [ -r "$dk_files/$dk_file" ] || return; done; }
+
 # close_files FILE..: closes those that were opened here, or descriptors
 close_files() { for dk_file; do eval "exec ${dk_file##*/}<&-"; done; }
 
