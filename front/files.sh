@@ -47,7 +47,7 @@ await() {
 # is_running PROCESS: whether it is there, and not its status alone
 is_running() {
     IFS= read -r dk_line < "/proc/$1/stat" || return
-    case ${dk_line##*) } in [ZX]*) return 1 ;; esac
+    case ${dk_line##*")"} in " Z"* | " X"*) return 1 ;; esac
 } 2> /dev/null
 
 # finish STATUS: ends as a process did that had this status

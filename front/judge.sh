@@ -16,8 +16,8 @@ dk_mark=${dk_mark%% *} dk_zipped=${dk_zipped% *}
 dk_kilobyte=xxxx
 for dk_round in 1 2 3 4; do dk_kilobyte=$dk_kilobyte$dk_kilobyte$dk_kilobyte$dk_kilobyte; done
 
-# look_at_features FILE..: sets `dk_why` for merge, complement, intersect and subtract, and `dk_hits` to `several` if hits
-# have to be put in order
+# look_at_features FILE..: sets `dk_why` for merge, complement, intersect and subtract, and `dk_hits` to `several` if
+# hits have to be put in order
 look_at_features() {
     dk_hits='' dk_groups=''
     [ "$dk_copied" = known ] || ! lists_hits || look_at_hits
@@ -27,7 +27,7 @@ look_at_features() {
     [ -n "$dk_why" ] || [ "$dk_hits" != some ] || dk_why='the hits of its records are not known'
 }
 
-# look_at_hits: the same of hits that are listed
+# look_at_hits: sets `dk_hits` for hits that are listed, or `dk_why`
 look_at_hits() {
     dk_why='the installation is broken'
     ! read_part through.sh || ! read_part hits.sh || ! has_parts whole.awk hit_groups.awk hit_order.awk ||
