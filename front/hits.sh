@@ -32,17 +32,25 @@ count_columns() {
     is_count "$dk_columns" && [ "$dk_columns" -le 99 ] || dk_columns=3
 }
 
-# most_hits: how many hits are put in order for less than bedtools needs to write them, as measured with lines of 50
-# bytes: any if there is no bedtools, or if any size is tried
+# most_hits: how many hits are put in order for less than bedtools needs to write them, as measured: any if there is no
+# bedtools, or if any size is tried; else none of long lines, which take the looks and awk longer than bedtools
 most_hits() {
     if ! writes_second; then echo 0; return; fi
     [ -n "${dk_original-}" ] || find_original
-    [ -z "$dk_original" ] || [ "$dk_small" = 0 ] || echo "$((dk_bytes / 100))"
+    if [ -z "$dk_original" ] || [ "$dk_small" = 0 ]; then return; fi
+    if is_narrow "$dk_a" && is_narrow "$dk_b"; then echo "$((dk_bytes / 100))"; else echo 0; fi
 }
+
+# is_narrow FILE: whether its last lines have at most 40 bytes, in the middle
+is_narrow() {
+    # shellcheck disable=SC2046
+    set -- $(tail -c 4000 < "$1" | wc -lc) 0 0
+    [ "$(($1 * 40 + 40))" -ge "$2" ]
+} 2> /dev/null
 
 # judge_several: sets `dk_why` if awk can't put the hits in order
 judge_several() {
-    # It opens the file by its descriptor.
+    # awk opens the file by its descriptor.
     if [ -n "${KSH_VERSION-}" ]; then dk_why='a ksh keeps what it opens from what it runs'
     elif ! tells_failed_writes; then dk_why='awk ends well where a write failed'
     fi
@@ -50,7 +58,7 @@ judge_several() {
 
 # judge_many: sets `dk_why` where bedtools is as quick
 judge_many() {
-    dk_why='bedtools is as quick with so many hits'
+    dk_why='bedtools is as quick with so many hits, or with lines of over 40 bytes'
     writes_second || dk_why='bedtools orders the hits of a record otherwise; -sorted orders them'
 }
 
