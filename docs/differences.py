@@ -257,6 +257,8 @@ TRIALS = [
           "intersect -a no_strand.bed -b no_strand.bed -s", FILES["no_strand.bed"], "", 0),
     Trial("order of hits without `-sorted`", "intersect -a long.bed -b bins.bed", "chr1\t60000\t60010\nchr1\t30000\t100000\n", 0,
           "intersect -a long.bed -b bins.bed", "chr1\t30000\t100000\nchr1\t60000\t60010\n", "", 0),
+    Trial("order of hits without `-sorted`", "intersect -wb -a long.bed -b bins.bed | cut -f 1-3", "chr1\t60000\t60010\nchr1\t30000\t100000\n", 0,
+          "intersect -wb -a long.bed -b bins.bed | cut -f 1-3", "chr1\t30000\t100000\nchr1\t60000\t60010\n", "", 0),
     Trial("limit on memory", "intersect -a f.bed -b f.bed -held 1", "", 1,
           "intersect -a f.bed -b f.bed -held 1", "", "bedtools intersect: f.bed:2: too many open records\n", 1),
     Trial("two kinds of output at once", "intersect -a one.bed -b three.bed -u -wb", "chr1\t0\t1\n", 0,

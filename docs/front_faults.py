@@ -26,6 +26,7 @@ kill -s KILL $$
 SCRIPTS = (
     "bedtools merge -i a.bed", "bedtools merge -i late_long.bed", "bedtools merge -i natural.bed", "bedtools complement -i a.bed -g g.txt", "bedtools complement -i past.bed -g g.txt",
     "bedtools intersect -a a.bed -b b.bed", "bedtools intersect -a a.bed -b twice.bed", "bedtools intersect -a natural.bed -b natural.bed", "bedtools intersect -wo -a natural.bed -b twice_natural.bed",
+    "bedtools intersect -wa -wb -a wide.bed -b mixed.bed", "bedtools intersect -wo -f 0.01 -a natural_wide.bed -b natural_mixed.bed", "bedtools intersect -wb -a <(CAT wide.bed) -b mixed.bed",
     "bedtools intersect -s -u -a a.bed -b a.bed", "bedtools intersect -f 0.25 -u -a a.bed -b b.bed", "bedtools intersect -f 0.123456 -r -u -a late_wide.bed -b late_wide.bed",
     "bedtools subtract -a a.bed.gz -b b.bed.gz", "bedtools merge -i many.bed.gz", "bedtools genomecov -i natural.bed -g natural.txt", "bedtools genomecov -bg -i natural.bed -g g.txt",
     "bedtools genomecov -bga -strand + -i natural.bed -g g.txt", "bedtools genomecov -d -i a.bed -g g.txt", "bedtools genomecov -dz -i a.bed -g g.txt", "bedtools genomecov -bg -scale 0.3 -i a.bed -g g.txt",
@@ -55,7 +56,9 @@ def reads(names, cigars):
 def fill(folder):
     """Writes the files. What is odd in one is near its end, where a tool that died doesn't come."""
     features = rows(NAMES, 60, 90, 40)
+    wide, mixed = rows(("c",), 60, 30_000, 40_000), rows(("c",), 200, 9000, 6000, "\tm\t0\t-")
     files = {
+        "wide.bed": wide, "mixed.bed": mixed, "natural_wide.bed": [line.replace("c", name, 1) for name in NATURAL for line in wide], "natural_mixed.bed": [line.replace("c", name, 1) for name in NATURAL for line in mixed],
         "a.bed": features, "b.bed": rows(NAMES, 50, 95, 30, "\tr\t0\t-"), "few.bed": features[:5], "natural.bed": rows(NATURAL, 60, 90, 40, "\tr\t0\t-")[:-1] + ["chrX\t9000\t9040\tr\t0\t+\n"],
         "late_long.bed": [*features, f"chrX\t9000\t9040\t{1100 * 'n'}\n"], "past.bed": [*features, "chrX\t9000\t99999999\n"], "twice.bed": [*features, features[-1]],
         "twice_natural.bed": [*rows(NATURAL, 60, 90, 40), "chrX\t5310\t5350\tr\t0\t+\n"], "late_wide.bed": [*features, "chrX\t9000\t8000000\tr\t0\t+\n"], "many.bed": rows(NAMES, 900, 90, 40),

@@ -154,6 +154,17 @@ def try_paths(place, folder, count):
             if "bedtools" not in part and how != "half":
                 status = call([broken / "bin" / "dunekettle", "merge", "-i", "unsorted.bed"], folder, env)[2]
                 count.expect(f"{part} {how}: a fault", 1, status)
+    both = ("through.sh", "whole.awk")
+    needed = {"intersect -wo -a f.bed -b f.bed": ("hits.sh", "hit_groups.awk", "hit_order.awk"), "genomecov -i f.bed -g g.txt": ("genomecov.sh", "order_genome.awk", "float.awk", "histogram.awk")}
+    for part in sum(needed.values(), both):
+        for how in ("missing", "empty"):
+            broken = install(top / f"{part} {how}")
+            (broken / "lib" / "dunekettle" / part).unlink()
+            if how == "empty":
+                (broken / "lib" / "dunekettle" / part).touch()
+            env = {**looking(), "PATH": f"{drop_in(broken)}:{tools}:{says}"}
+            for line, names in needed.items():
+                count.expect(f"{part} {how}: {line}", 7 if part in (*both, *names) else 0, call(["bedtools", *line.split()], folder, env)[2])
     shutil.copy(place / "bin" / "dunekettle", bare / "bedtools")
     (bare / "mergeBed").symlink_to("bedtools")
     env = {**looking(), "PATH": f"{bare}:{tools}:{says}"}
@@ -302,11 +313,12 @@ def with_variable(line):
 def try_gone_readers(place, folder, count):
     """A reader that goes away ends a call of the drop-in by SIGPIPE, silently, as it ends bedtools."""
     (folder / "long.bed").write_text("".join(f"chr1\t{9 * n}\t{9 * n + 5}\n" for n in range(99_999)), encoding="utf-8")
+    (folder / "wide.bed").write_text("".join(f"chr1\t{9000 * n}\t{9000 * n + 20_000}\n" for n in range(99)), encoding="utf-8")
     (folder / "long.fa").write_text(">chr1\n" + 99_999 * "ACGTACGT\n", encoding="utf-8")
     env = looking(drop_in(place))
     lines = ["merge -i long.bed", "intersect -u -a long.bed -b long.bed", "complement -i long.bed -g far.txt", "maskfasta -fi long.fa -bed f.bed -fo /dev/stdout",
              "genomecov -bg -i long.bed -g far.txt", "genomecov -bga -scale 0.5 -i long.bed -g far.txt", "genomecov -d -i long.bed -g far.txt",
-             "intersect -wa -wb -a long.bed -b long.bed", "merge -i <(cat long.bed)"]
+             "intersect -wa -wb -a long.bed -b long.bed", "intersect -wa -wb -a wide.bed -b long.bed", "merge -i <(cat long.bed)"]
     (folder / "far.txt").write_bytes(b"chr1\t9000000\n")
     for words in (["sh"], ["dash"], ["bash", "--posix"], ["busybox", "sh"], ["mksh"], ["yash"]):
         if not shutil.which(words[0]):
@@ -335,17 +347,17 @@ def try_gone_readers(place, folder, count):
 
 
 def try_failed_writes(place, folder, count):
-    """What awk can't write, of a form of genomecov, is a fault as that of the program is."""
+    """What awk can't write, of a form of genomecov or of hits, is a fault as that of the program is."""
     for name in filter(shutil.which, ("mawk", "gawk")):
         made = folder.parent / f"{name} alone"
         made.mkdir()
         (made / "awk").symlink_to(shutil.which(name))
         env = {**looking(), "PATH": os.pathsep.join(map(str, [drop_in(place), made, folder.parent / "says", folder.parent / "tools"]))}
-        for form in ("-d", "-bg -scale 0.5", ""):
-            line = f"bedtools genomecov {form} -i long.bed -g far.txt"
+        for line in ("genomecov -d -i long.bed -g far.txt", "genomecov -bg -scale 0.5 -i long.bed -g far.txt", "genomecov -i long.bed -g far.txt", "intersect -wo -a wide.bed -b long.bed"):
+            command, line = line.split()[0], f"bedtools {line}"
             for script in (f"{line} > /dev/full", f"{line} >&-", f"trap '' PIPE; {line} | true; exit ${{PIPESTATUS[0]}}"):
                 found = call(["bash", "-c", script], folder, env)
-                count.expect(f"{name}: {script}", (b"", "bedtools genomecov: writing failed\n", 1), found)
+                count.expect(f"{name}: {script}", (b"", f"bedtools {command}: writing failed\n", 1), found)
 
 
 def try_report(place, folder, count):
@@ -435,7 +447,7 @@ def try_awks(place, folder, count):
     ours = ("complement -i d.bed -g g.txt", "genomecov -bga -i d.bed -g g.txt", "intersect -s -u -a d.bed -b f.bed", "intersect -a d.bed -b d.bed",
             "intersect -f 0.25 -u -a d.bed -b f.bed", "bamtobed -i sam.sam", "merge -i a\nb.bed", "merge -i crlf2.bed", "genomecov -i late.bed -g g.txt",
             "genomecov -d -i d.bed -g g.txt", "genomecov -dz -i d.bed -g g.txt", "genomecov -bg -scale 0.3 -i d.bed -g g.txt", "genomecov -bga -strand + -i d.bed -g g.txt",
-            "genomecov -bga -i late.bed -g g.txt", "genomecov -bg -split -i blocks.bed -g g.txt")
+            "genomecov -bga -i late.bed -g g.txt", "genomecov -bg -split -i blocks.bed -g g.txt", "intersect -wa -wb -a f.bed -b f.bed", "intersect -wo -a f.bed -b f.bed")
     theirs = ("complement -i past.bed -g g.txt", "intersect -s -u -a d.bed -b dot.bed", "intersect -a f.bed -b f.bed",
               "intersect -f 0.25000001 -u -a long.bed -b f.bed", "maskfasta -fi two.fa -bed d.bed -fo masked.fa", "bamtobed -i zero.sam", "merge -i crlf.bed",
               "merge -i numbers.vcf", "merge -i wide.bed", "intersect -u -a d.bed -b bare.bed", "subtract -a bare.bed -b d.bed")
@@ -454,11 +466,11 @@ def try_awks(place, folder, count):
         (made / "awk").write_text(f"#!/bin/sh\nexec {shutil.which(name)} {'awk ' if name == 'busybox' else ''}\"$@\"\n", encoding="utf-8")
         (made / "awk").chmod(0o755)
         env = {**looking(), "PATH": os.pathsep.join(map(str, [drop_in(place), made, top / "says", top / "tools"]))}
-        # genomecov goes to bedtools where awk ends well although it couldn't write.
+        # What awk writes goes to bedtools where awk ends well although it couldn't write.
         is_silent = call(["sh", "-c", "awk 'BEGIN { print 1 }' > /dev/full"], folder, env)[2] == 0
         for line in (*ours, *theirs):
             words = ["bedtools", *line.split(" ")]
-            is_ours = line in ours and not (is_silent and line.startswith("genomecov"))
+            is_ours = line in ours and not (is_silent and line.startswith(("genomecov", "intersect -wa -wb", "intersect -wo")))
             count.expect(f"{name}: {line}", 0 if is_ours else 7, call(words, folder, env)[2])
         reports[name] = call([place / "bin" / "dunekettle", "check", "--json", *sorted(file.name for file in folder.iterdir() if file.name != "-x")], folder, env)[0]
         count.expect(f"{name}: check", True, len(reports[name]) > 1000 and len(set(reports.values())) == 1)

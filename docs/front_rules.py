@@ -5,8 +5,8 @@ files of sorted BED.
     docs/front_rules.py [SEED [CASES [JOBS [RULE]]]]
 
 The rules: files in an order of chromosomes of their own; genomecov in any order of them, its forms, its blocks of BED12 and of BAM; bamtobed through samtools;
-the order of hits; streams that are short, long, or two of one producer; gzip files; bytes that bedtools reads
-otherwise. Each command line has to write the same bytes with the same status, and leave no file in TMPDIR; if bedtools
+the order of hits, and bins of all levels; streams that are short, long, or two of one producer; gzip files; bytes that bedtools reads
+otherwise. By several kinds of awk and shells. Each command line has to write the same bytes with the same status, and leave no file in TMPDIR; if bedtools
 ends with another status than 0, Dunekettle may take it. Shows how many of each rule Dunekettle took. Ends with 1 where
 one differs, and with 0 and a word where there is no bedtools 2.30.0.
 """
@@ -14,6 +14,7 @@ one differs, and with 0 and a word where there is no bedtools 2.30.0.
 import concurrent.futures
 import gzip
 import random
+import shutil
 import subprocess
 import sys
 import tempfile
@@ -147,6 +148,40 @@ def hits(draw):
     return files, line + draw.choice([[], ["-wa", "-wb"], ["-wb"], ["-wo"], ["-wa"], ["-wa", "-wo"]]) + some(draw, 0.2, "-f", draw.choice(["0.5", "0.1", "1"])) + some(draw, 0.1, "-r"), ""
 
 
+def near_bin(draw):
+    """A start or an end at the border of a bin, of some level, or a base or two from it, or anywhere."""
+    size = 16_384 * 8 ** draw.choice([0, 0, 0, 1, 1, 2, 3, 4])
+    return max(0, draw.choice([size * draw.randint(0, min(40, 300_000_000 // size)), draw.randrange(2_000_000), draw.randrange(60_000)]) + draw.choice([0, 0, 0, -2, -1, 1, 2]))
+
+
+def bins(draw):
+    """intersect that lists several hits of records: of all levels of bins, with ties, in small and large groups."""
+    names = draw.sample(NAMES, draw.randint(1, 3))
+    places = [near_bin(draw) for _ in range(draw.choice([3, 6, 12]))]
+    def text(few, most_columns):
+        columns, rows = draw.randint(3, most_columns), []
+        for name in names:
+            made = []
+            for n in range(draw.choice([0, 1, 3, few, few])):
+                start = draw.choice([draw.choice(places), near_bin(draw)])
+                end = draw.choice([start + draw.choice([1, 2, 60, 300, 16_383, 16_384, 16_385, 131_072, 300_000_000 - start]), start + 16_384 - start % 16_384, draw.choice(places), near_bin(draw)])
+                made.append([name, start, max(start + 1, end), f"r{n % 4}", n % 3, draw.choice("+-"), "more", n % 5][:columns])
+            made.sort(key=lambda row: row[1])
+            rows += [row for row in made for _ in range(draw.choice([1, 1, 1, 2]))]
+        if rows and draw.random() < 0.02:
+            rows[-1] = rows[-1] + ["x"]
+        lines = text_of(rows, draw.choice(["\n"] * 5 + ["\r\n"])).splitlines(keepends=True)
+        for _ in range(draw.choice([0, 0, 0, 1])):
+            lines.insert(draw.choice([0, draw.randint(0, len(lines))]), draw.choice([b"#c\n", b"#c\td\n", b"track x\n"]))
+        return b"".join(lines)
+    files = {"a.bed": text(8, 8), "b.bed": text(draw.choice([8, 30]), 8)}
+    line = ["intersect", "-a", "a.bed", "-b", draw.choice(["b.bed"] * 6 + ["a.bed"]), *draw.choice([[], ["-wa", "-wb"], ["-wa", "-wb"], ["-wb"], ["-wb"], ["-wo"], ["-wo"]])]
+    line += some(draw, 0.2, "-f", draw.choice(["0.5", "0.1", "1", "0.000001"])) + some(draw, 0.1, "-r") + some(draw, 0.1, "-s")
+    if draw.random() < 0.1:
+        return files, "PROGRAM " + " ".join(f"<(cat {word})" if word.endswith(".bed") and draw.random() < 0.6 else word for word in line), ""
+    return files, line, ""
+
+
 def plain(draw):
     """A command of sorted files, for the rules that go by how they are given."""
     sizes = {name: 40_000 for name in sorted(draw.sample(NAMES[:6], 3))}
@@ -236,7 +271,7 @@ def own_orders(draw):
     return files, line, ""
 
 
-RULES = {"own orders": own_orders, "coverage": coverage, "alignments": alignments, "hits": hits, "streams": streams, "gzip": zipped, "odd bytes": odd_bytes}
+RULES = {"own orders": own_orders, "coverage": coverage, "alignments": alignments, "hits": hits, "bins": bins, "streams": streams, "gzip": zipped, "odd bytes": odd_bytes}
 
 
 def ran(line, program, folder, env, source):
@@ -247,7 +282,7 @@ def ran(line, program, folder, env, source):
     return output, status, said
 
 
-def try_seed(rule, seed, theirs, place, with_awk):
+def try_seed(rule, seed, theirs, place, with_awk, shell):
     """A random command line of a rule: who took it, and what differs."""
     draw = random.Random(f"{rule} {seed}")
     files, line, source = RULES[rule](draw)
@@ -259,11 +294,11 @@ def try_seed(rule, seed, theirs, place, with_awk):
             (folder / name).write_bytes(text)
         wanted = ran(line, theirs, folder, looking(), source)
         env = looking(drop_in(place), *with_awk, DUNEKETTLE_TELL="1", TMPDIR=str(temporary))
-        found = ran(line, drop_in(place) / "bedtools", folder, env, source)
+        found = ran(line, f"{shell} {drop_in(place) / 'bedtools'}", folder, env, source)
         left = [file.name for file in temporary.iterdir()]
     taker = (TOLD.findall(found[2]) or [("nobody", "")])[0][0]
     is_refused = wanted[1] != 0 and taker == "Dunekettle"
-    wrong = "" if (wanted[:2] == found[:2] or is_refused) and not left else f"{rule} {seed}: {line}, taken by {taker}, left {left}\n  wanted {wanted!r:.700}\n  found  {found!r:.700}\n  files  {files!r:.1500}"
+    wrong = "" if (wanted[:2] == found[:2] or is_refused) and not left else f"{rule} {seed}: {line}, {shell}, taken by {taker}, left {left}\n  wanted {wanted!r:.700}\n  found  {found!r:.700}\n  files  {files!r:.1500}"
     return rule, "Dunekettle" if taker == "Dunekettle" else "bedtools", wrong
 
 
@@ -282,8 +317,8 @@ def main():
             (folder / "awk").chmod(0o755)
             if subprocess.run([folder / "awk", "BEGIN { exit }"], stdin=subprocess.DEVNULL, stderr=subprocess.DEVNULL, check=False).returncode == 0:
                 awks.append(folder)
-        rules = sys.argv[4:] or list(RULES)
-        futures = [pool.submit(try_seed, rules[n % len(rules)], seed * 1_000_000 + n, theirs, place, awks[n % 7 % len(awks) :][:1]) for n in range(cases)]
+        rules, shells = sys.argv[4:] or list(RULES), ["", *(shell for shell in ("dash", "bash --posix", "busybox sh") if shutil.which(shell.split()[0]))]
+        futures = [pool.submit(try_seed, rules[n % len(rules)], seed * 1_000_000 + n, theirs, place, awks[n % 7 % len(awks) :][:1], shells[n % 11 % len(shells)]) for n in range(cases)]
         for done, future in enumerate(concurrent.futures.as_completed(futures), 1):
             rule, taker, difference = future.result()
             if done % 1000 == 0:

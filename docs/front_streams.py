@@ -32,7 +32,8 @@ SCRIPTS = [
     "exec 3< a.bed 4< a.bed 5< a.bed 6< a.bed 7< a.bed 8< a.bed 9< a.bed; cat a.bed | PROGRAM merge", "exec 3< a.bed 4< g.txt; PROGRAM complement -i /dev/fd/3 -g /dev/fd/4",
     "exec 3< a.bed 4< a.bed; PROGRAM genomecov -bga -i - -g g.txt < a.bed", "gzip -c a.bed > z.gz; PROGRAM subtract -a z.gz -b <(head -n 5 a.bed)", "PROGRAM merge -i - <&-",
     f"{ENDLESS} | PROGRAM intersect -sorted -u -a - -b a.bed | head -n 2", f"PROGRAM intersect -sorted -u -a <({ENDLESS}) -b <({ENDLESS}) | head -n 2",
-    "head -n 5 a.bed | PROGRAM intersect -sorted -c -a a.bed -b -",
+    "head -n 5 a.bed | PROGRAM intersect -sorted -c -a a.bed -b -", "PROGRAM intersect -wa -wb -a <(cat wide.bed) -b <(cat a.bed)", "cat wide.bed | PROGRAM intersect -wo -a a.bed -b -",
+    "gzip -c wide.bed > z.gz; PROGRAM intersect -wb -a z.gz -b wide.bed", "PROGRAM intersect -wa -wb -a wide.bed -b a.bed | head -n 3",
 ]
 
 
@@ -157,11 +158,11 @@ def try_signals(place, folder, count):
     if is_busy("signals"):
         return
     slow = fake(folder.parent / "slow tr", "tr", "exec sleep 60")
-    awk = fake(folder.parent / "slow awk", "awk", f'case "$*" in *histogram*) exec sleep 60 ;; esac; exec {shutil.which("awk")} "$@"')
+    awk = fake(folder.parent / "slow awk", "awk", f'case "$*" in *histogram* | *hit_order*) exec sleep 60 ;; esac; exec {shutil.which("awk")} "$@"')
     scripts = {
         "copies": ("exec bedtools merge -i <(sleep 60)", ()), "two copies": ("exec bedtools intersect -a <(sleep 60) -b <(cat a.bed)", ()),
         "opens": ("rm -f p q; mkfifo p q; cat a.bed > p & exec bedtools intersect -a p -b q", ()),
-        "looks": ("exec bedtools merge -i a.bed", (slow,)), "writes": ("exec bedtools genomecov -i a.bed -g g.txt", (awk,)),
+        "looks": ("exec bedtools merge -i a.bed", (slow,)), "writes": ("exec bedtools genomecov -i a.bed -g g.txt", (awk,)), "writes hits": ("exec bedtools intersect -wo -a wide.bed -b a.bed", (awk,)),
         "pours": ("exec bedtools merge -i <(tee < a.bed; sleep 60)", ()), "pours two": ("exec bedtools intersect -sorted -a <(tee < a.bed; sleep 60) -b <(sleep 60)", ()),
     }
     temporary = folder.parent / "after signals"
@@ -191,7 +192,7 @@ def try_shells(theirs, place, folder, count):
             print(f"no {shell}: passed over")
             continue
         for room in ("1000000", "500"):
-            for script in SCRIPTS[:7]:
+            for script in (*SCRIPTS[:7], *SCRIPTS[-4:]):
                 wanted = call(["bash", "-c", script.replace("PROGRAM", theirs)], folder, looking())
                 script = script.replace("PROGRAM", f"{shell} {drop_in(place) / 'bedtools'}")
                 found = call(["bash", "-c", script], folder, looking(drop_in(place), DUNEKETTLE_ROOM=room))
@@ -207,6 +208,7 @@ def main():
         folder = Path(made, "data")
         folder.mkdir()
         (folder / "a.bed").write_text(ROWS, encoding="utf-8")
+        (folder / "wide.bed").write_text("".join(f"chr1\t{9000 * n}\t{9000 * n + 20_000}\tw{n}\n" for n in range(40)), encoding="utf-8")
         (folder / "g.txt").write_text("chr1\t500000\nchr2\t1000\n", encoding="utf-8")
         place = install(Path(made, "there"))
         try_rooms(theirs, place, folder, count)

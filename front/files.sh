@@ -23,6 +23,9 @@ open_files() {
     [ "$dk_opened" = $# ] && { true < "/dev/fd/$dk_free"; } 2> /dev/null
 }
 
+# has_parts NAME..: whether these files of the installation are there, for awk
+has_parts() { for dk_file; do [ -s "$dk_files/$dk_file" ] && [ -r "$dk_files/$dk_file" ] || return; done; }
+
 # close_files FILE..: closes those that were opened here, or descriptors
 close_files() { for dk_file; do eval "exec ${dk_file##*/}<&-"; done; }
 
@@ -44,7 +47,7 @@ await() {
 # is_running PROCESS: whether it is there, and not its status alone
 is_running() {
     IFS= read -r dk_line < "/proc/$1/stat" || return
-    case ${dk_line##*) } in [ZX]*) return 1 ;; esac
+    case ${dk_line##*")"} in " Z"* | " X"*) return 1 ;; esac
 } 2> /dev/null
 
 # finish STATUS: ends as a process did that had this status

@@ -5,6 +5,8 @@
 # take_genomecov WORD..: becomes the program, or writes what awk makes of its output, or sets `dk_why`
 take_genomecov() {
     [ "$dk_copied" != known ] || take 'DUNEKETTLE_STREAMS says what its stream has' "$@"
+    has_parts whole.awk order_genome.awk float.awk histogram.awk each_base.awk scaled.awk bed12_blocks.awk \
+        sam_blocks.awk sam_genome.awk || { dk_why='the installation is broken'; return; }
     tells_failed_writes || { dk_why='awk ends well where a write failed'; return; }
     open_files names || { dk_why='TMPDIR takes no file, or too many are open'; return; }
     if [ -n "$dk_ibam" ]; then cover_alignments
@@ -21,10 +23,6 @@ take_genomecov() {
     if [ -n "$dk_scale" ] || is_deep "$@"; then write_form "$@"; fi
     take 'its words and its files are as it takes them' "$@"
 }
-
-# tells_failed_writes: whether awk ends with a fault where a write failed. That of busybox doesn't, and what it loses is
-# lost silently.
-tells_failed_writes() { [ -c /dev/full ] && ! LC_ALL=C awk 'BEGIN { print "x" }' > /dev/full; } 2> /dev/null
 
 # look_at_chromosomes FILE: sets `dk_why` unless each line of it is a chromosome that bedtools reads as such
 look_at_chromosomes() {
@@ -162,31 +160,9 @@ is_deep() {
 write_form() {
     tell "Dunekettle takes genomecov: awk makes ${dk_form:-the histogram}${dk_scale:+ times $dk_scale} of its output"
     case $dk_form in
-    '') write_through histogram.awk "${dk_max:-2147483647}" "$@" ;;
-    -d | -dz) write_through each_base.awk "$dk_form" "$@" ;;
-    *) write_through scaled.awk "${dk_scale:-1}" "$@" ;;
+    '') write_through 'float.awk histogram.awk' "${dk_max:-2147483647}" "$@" ;;
+    -d | -dz) write_through 'float.awk each_base.awk' "$dk_form" "$@" ;;
+    *) write_through 'float.awk scaled.awk' "${dk_scale:-1}" "$@" ;;
     esac
 }
-
-# write_through FILTER VALUE WORD..: writes what awk makes of the output of the program, which the words run, and ends
-# as both do
-write_through() {
-    dk_filter=$1 dk_value=$2
-    shift 2
-    { "$dk_program" genomecov "$@" < /dev/null 2> "$dk_spare" && echo; } | LC_ALL=C awk -v value="$dk_value" \
-        -f "$dk_files/whole.awk" -f "$dk_files/float.awk" -f "$dk_files/$dk_filter" 2> /dev/null &
-    await $!
-    dk_status=$?
-    # What the program says where awk has failed, or has ended without a reader, isn't a fault of its own.
-    case $dk_status in
-    3) grep . < "$dk_spare" >&2 || say 'genomecov was cut off' ;;
-    1 | 2) fail_to_write ;;
-    141) kill -s PIPE "$$"; fail_to_write ;; # The signal ends this shell, unless its caller ignores it.
-    *) finish "$dk_status" ;;
-    esac
-    exit 1
-}
-
-# fail_to_write: says so as the program does
-fail_to_write() { printf 'bedtools genomecov: writing failed\n' >&2 2> /dev/null; }
 dk_part=genomecov.sh

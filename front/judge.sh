@@ -16,16 +16,22 @@ dk_mark=${dk_mark%% *} dk_zipped=${dk_zipped% *}
 dk_kilobyte=xxxx
 for dk_round in 1 2 3 4; do dk_kilobyte=$dk_kilobyte$dk_kilobyte$dk_kilobyte$dk_kilobyte; done
 
-# look_at_features FILE..: sets `dk_why` for merge, complement, intersect and subtract
+# look_at_features FILE..: sets `dk_why` for merge, complement, intersect and subtract, and `dk_hits` to `several` if
+# hits have to be put in order
 look_at_features() {
-    dk_hits=''
-    [ "$dk_copied" = known ] || ! lists_hits || find_hits
-    [ "$dk_hits" = several ] || look_at_each "$@"
+    dk_hits='' dk_groups=''
+    [ "$dk_copied" = known ] || ! lists_hits || look_at_hits
+    [ -n "$dk_why" ] || look_at_each "$@"
     # A fault ended the first look at the hits, where an order of chromosomes was to be found.
     [ -n "$dk_why" ] || [ "$dk_hits" != some ] || find_hits
-    case $dk_why$dk_hits in
-    several | some) dk_why='bedtools orders the hits of a record otherwise; -sorted orders them' ;;
-    esac
+    [ -n "$dk_why" ] || [ "$dk_hits" != some ] || dk_why='the hits of its records are not known'
+}
+
+# look_at_hits: sets `dk_hits` for hits that are listed, or `dk_why`
+look_at_hits() {
+    dk_why='the installation is broken'
+    ! read_part through.sh || ! read_part hits.sh || ! has_parts whole.awk hit_groups.awk hit_order.awk ||
+        { dk_why='' && find_hits; }
 }
 
 # look_at_each FILE..
@@ -157,18 +163,6 @@ has_short_records() {
 widen_spans() {
     LC_ALL=C awk -F '\t' -v OFS='\t' -v end="$dk_far" '{ print $1, 0, end }' < "$dk_spans" > "$dk_whole" || return
     dk_lines=$(wc -l < "$dk_spans") && [ "$dk_lines" = "$(wc -l < "$dk_whole")" ]
-}
-
-# find_hits: sets `dk_hits` to `single` if no record of -a has several hits, and to `several` if one has, or to `some`
-# if a fault ended the program before. bedtools lists several in an order of its own without -sorted.
-find_hits() {
-    set -- -a "$dk_a" -b "$dk_b" ${dk_g:+-g "$dk_g"} ${dk_f:+-f "$dk_f"}
-    ! has_word -r || set -- "$@" -r
-    ! has_word -s || set -- "$@" -s
-    if writes_none "$dk_tab([2-9]|[1-9][0-9]+)\$" "$dk_program" intersect -c "$@"; then dk_hits=single
-    elif [ -s "$dk_spare" ]; then dk_hits=several
-    else dk_hits=some
-    fi
 }
 
 # find_order FILE..: puts the chromosomes of all files into `dk_genome`, in an order that fits each, if there is one and

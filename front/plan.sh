@@ -8,6 +8,8 @@
 #     streams.sh  how streams do; pour.sh gives long ones to the original
 #     judge.sh    what is in the files
 #     genomecov.sh, bamtobed.sh   the same of these commands, and the forms of the first
+#     hits.sh     hits that intersect lists
+#     through.sh  what awk makes of the program's output
 #     files.sh    what all of these use
 
 # plan COMMAND WORD..: becomes the program or the original
@@ -47,7 +49,7 @@ decide() {
     case $dk_command in
     genomecov | bamtobed)
         dk_why='the installation is broken'
-        ! read_part "$dk_command.sh" || { dk_why='' && take_"$dk_command" "$@"; }
+        read_part through.sh && read_part "$dk_command.sh" && { dk_why='' && take_"$dk_command" "$@"; }
         return
         ;;
     intersect | subtract) look_at_features "$dk_a" "$dk_b" ;;
@@ -56,6 +58,7 @@ decide() {
     [ -z "$dk_why" ] || return 0
     [ "$dk_copied" != known ] || take 'DUNEKETTLE_STREAMS says what its stream has' "$@"
     [ -z "$dk_ordered" ] || set -- "$@" -g "$dk_genome"
+    [ "$dk_hits" != several ] || write_hits "$@"
     take 'its words and its files are as it takes them' "$@"
 }
 

@@ -57,6 +57,9 @@ lists_hits() {
     ! has_word -wa || has_word -wb || has_word -wo
 }
 
+# writes_second: whether intersect writes the records of -b, which say how bedtools orders them
+writes_second() { has_word -wb || has_word -wo; }
+
 # streams_are_known: whether DUNEKETTLE_STREAMS takes the one stream as sorted BED, and no option goes by what else it
 # has
 streams_are_known() {

@@ -84,7 +84,7 @@ least_bytes() {
     bamtobed*) dk_least=18 ;;
     *) dk_least=6 ;;
     esac
-    # A record with several hits ends the look, and bedtools takes the call.
+    # Several hits of a record have to be put in order, or end the look.
     ! lists_hits || dk_least=64
     dk_least=$((dk_small * dk_least))
     [ -z "$dk_copied" ] || dk_least=$((dk_least / 2))
