@@ -189,8 +189,9 @@ def make_changes(crate, changes):
 def broken_values(said):
     """The worked values that aren't what they were, by what a check says."""
     found = re.findall(r"^\./proofs/(?:\w+/)*(\w+)/Answers\.antt:\d+:\d+: error: `returns-clause-(\w+)`: [^\n]*\btypes?\b", said, re.M)
-    for function, goals in re.findall(r"^fn definitions::(?:\w+::)*(\w+): no proof: .*`search` did not prove (.*)$", said, re.M):
-        found += [(function, goal) for goal in re.findall(r"returns-clause-(\w+)", goals)]
+    # Values that have no answer of their own are in notes, before the line of their function.
+    for notes, function in re.findall(r"((?:^note: [^\n]*\n)+)fn definitions::(?:\w+::)*(\w+): ", said, re.M):
+        found += [(function, goal) for goal in re.findall(r"it is not proved [^\n]*\(`returns-clause-(\w+)`\)", notes)]
     found += [("levels", lemma) for lemma in re.findall(r"^\./proofs/LevelScans\.antt:\d+:\d+: error: `(\w+)`", said, re.M)]
     return sorted(f"{function}: {goal}" for function, goal in set(found))
 
