@@ -1,5 +1,5 @@
 -- How carrying out a plan ends, as standard error and the exit status report it.
-use Rattle.std.specs.Prelude.{◌≡◌, ◌≢◌, ◌⊎◌, [], true, Option, None, Some, option_map, unwrap_or}
+use Rattle.std.specs.Prelude.{◌≡◌, ◌≢◌, ◌⊎◌, [], true, Option, None, Some}
 use Rattle.bt_lines.specs.calls.Faults.{write_failed}
 use Rattle.bt_lines.specs.declared.device.Sink.{Ghosts as Sink}
 use Rattle.bt_lines.specs.declared.device.Source.{Ghosts as Source}
@@ -14,10 +14,10 @@ use Rattle.bedtools.specs.Message.{Says, cannot_open_text, message_seen}
 use Rattle.bedtools.specs.declared.files.Files.{Ghosts as Files}
 use Rattle.bedtools.specs.declared.message.Message.{Message}
 
--- a run ended with this fault, or without one
+-- a run ended without a fault, of which nothing is said; or with this one
 abbrev pub ReportsRun : PlanSeen → Option FaultValue → Message → Type 0
-ReportsRun plan fault message =
-    Says (unwrap_or (option_map (fault_text plan) fault) []) (status_of fault) message
+ReportsRun plan None message = message_seen message.line ≡ [] × message.status ≡ 0
+ReportsRun plan (Some fault) message = Says (fault_text plan fault) (status_of (Some fault)) message
 
 -- no file was opened, and no output made
 abbrev pub LeavesAll : {F O : Type 0} → F → Option O → F → Type 0
@@ -102,7 +102,6 @@ module _ {F I O : Type 0} (ghosts : Files F I O) (source : Source I) (sink : Sin
     pub ran : RunsOver source sink plan.command genome first second out fault genome_after first_after second_after out_after
     pub left_so : left ≡ Some out_after
     pub reports : ReportsRun plan fault message
-    pub well : fault ≡ None → message_seen message.line ≡ [] × message.status ≡ 0
 
   -- the plan was carried out; or it couldn't be, and no output was made
   abbrev pub Ends : F → PlanSeen → Message → Option O → F → Type 0

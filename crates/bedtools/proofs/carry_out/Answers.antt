@@ -18,8 +18,7 @@ returns-in-Ok g c = inr (record {
   opened = c.in-Ok.ensures.opened;
   ran = c.run_over-ended.ensures;
   left_so = refl;
-  reports = c.end_of.ensures.fault;
-  well = c.end_of.ensures.none;
+  reports = c.end_of.ensures;
 })
 
 pub returns-in-Err : goal.returns-in-Err

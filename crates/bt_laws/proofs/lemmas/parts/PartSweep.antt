@@ -53,7 +53,8 @@ written_same mine yours xs h = grind (arith, take_same, all_so, flat_map_same, c
 pub written_before : {A : Type 0} (rule : Rule A ℕ FaultValue) (xs ys : List A) → AllByRecursion (λ y. rule.decided y ≡ false) ys → written rule (xs ++ ys) ≡ written rule xs
 written_before rule xs ys h = grind (arith, take_before)
 
--- what is written of the members of both parts begins the lines of the first and what is written of the second: either all of the first are decided, or none of the second
+-- What is written of the members of both parts begins this: the lines of the first, and what is written of the second.
+-- For all of the first are decided, or none of the second.
 pub meets : {A : Type 0} (one whole : Rule A ℕ FaultValue) (xs ys : List A) (later : List ℕ) → AllByRecursion (λ x. whole.lines x ≡ one.lines x) xs → written whole ys ≡ later
     → (list_all whole.decided xs ≡ true) ⊎ AllByRecursion (λ y. whole.decided y ≡ false) ys → (rest : List ℕ) × (flat_map one.lines xs ++ later ≡ written whole (xs ++ ys) ++ rest)
 meets one whole xs ys later same is (inl all) = grind (arith, written_past, flat_map_same, append-nil)
