@@ -11,6 +11,7 @@ use Rattle.bt_tool.specs.model.Report.{fault_text, status_of}
 use Rattle.bt_tool.specs.declared.planning.plan_type.Command.{Command}
 use Rattle.bt_tool.specs.model.Table.{Word, tool_name, tool_of}
 use Rattle.bedtools.specs.Message.{Says, cannot_open_text, message_seen}
+use Rattle.bedtools.specs.declared.OpenedFiles.{OpenedFiles}
 use Rattle.bedtools.specs.declared.files.Files.{Ghosts as Files}
 use Rattle.bedtools.specs.declared.message.Message.{Message}
 
@@ -20,7 +21,7 @@ ReportsRun plan None message = message_seen message.line ≡ [] × message.statu
 ReportsRun plan (Some fault) message = Says (fault_text plan fault) (status_of (Some fault)) message
 
 -- no file was opened, and no output made
-abbrev pub LeavesAll : {F O : Type 0} → F → Option O → F → Type 0
+abbrev pub LeavesAll : {F T : Type 0} → F → Option T → F → Type 0
 LeavesAll before left after = (left ≡ None) × (after ≡ before)
 
 -- The files of a plan are opened in their order, each once. In what follows, files are those before and those after.
@@ -87,8 +88,9 @@ module _ {I O : Type 0} (source : Source I) (sink : Sink O) where
 
 module _ {F I O : Type 0} (ghosts : Files F I O) (source : Source I) (sink : Sink O) where
   -- The plan's command was run once, over the files that it names, and ended with this fault, or without one. That is
-  -- reported, and the output is as it was then.
-  pub record ReportsItsRun (before : F) (plan : PlanSeen) (message : Message) (left : Option O) (after : F) : Type 0 where
+  -- reported, and the files are as they were then.
+  pub record ReportsItsRun (before : F) (plan : PlanSeen) (message : Message) (left : Option (OpenedFiles I O)) (after : F)
+      : Type 0 where
     pub fault : Option FaultValue
     pub genome : Option I
     pub first : I
@@ -100,10 +102,15 @@ module _ {F I O : Type 0} (ghosts : Files F I O) (source : Source I) (sink : Sin
     pub out_after : O
     pub opened : AfterOutput ghosts before plan genome first second out after
     pub ran : RunsOver source sink plan.command genome first second out fault genome_after first_after second_after out_after
-    pub left_so : left ≡ Some out_after
+    pub left_so : left ≡ Some (record {
+      genome = genome_after;
+      first = first_after;
+      second = second_after;
+      output = out_after;
+    })
     pub reports : ReportsRun plan fault message
 
   -- the plan was carried out; or it couldn't be, and no output was made
-  abbrev pub Ends : F → PlanSeen → Message → Option O → F → Type 0
+  abbrev pub Ends : F → PlanSeen → Message → Option (OpenedFiles I O) → F → Type 0
   Ends before plan message left after =
       (CannotBegin ghosts before plan message after × (left ≡ None)) ⊎ ReportsItsRun before plan message left after

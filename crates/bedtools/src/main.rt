@@ -81,20 +81,20 @@ fn words(rt: &HostRuntime) -> io::Result<Vec<String>> {
 
 // How a command line ended. What standard error is to say is a `Message`, here and below.
 #[derive(Drop)]
-struct Finished<O> {
+struct Finished<I, O> {
     message: Message,
-    // The output as the run left it, if there was a run.
-    output: Option<O>,
+    // The files as the run left them, if there was a run.
+    left: Option<OpenedFiles<I, O>>,
 }
 
 // Makes the plan and carries it out over these files. Without a plan nothing is asked of them.
-fn start<F: Files>(alloc: Global, files: &mut F, words: &[String]) -> Finished<F::Output>
+fn start<F: Files>(alloc: Global, files: &mut F, words: &[String]) -> Finished<F::Input, F::Output>
     ensures usage { (usage : Usage) → options (words_seen words.now) ≡ Err usage
         → Says (usage_text (words_seen words.now) usage) 2 result.message
-        × LeavesAll files.old result.output files.new }
+        × LeavesAll files.old result.left files.new }
     ensures run { (plan : PlanSeen) → options (words_seen words.now) ≡ Ok plan
-        → Ends F.Files F.Input.Source F.Output.Sink files.old plan result.message result.output files.new
-        ⊎ (SaysNoMemory result.message × LeavesAll files.old result.output files.new) }
+        → Ends F.Files F.Input.Source F.Output.Sink files.old plan result.message result.left files.new
+        ⊎ (SaysNoMemory result.message × LeavesAll files.old result.left files.new) }
 {
     let message = match plan(alloc, words) {
         Ok(plan) => return carry_out(alloc, files, &plan),
@@ -103,13 +103,13 @@ fn start<F: Files>(alloc: Global, files: &mut F, words: &[String]) -> Finished<F
     };
     Finished {
         message,
-        output: None,
+        left: None,
     }
 }
 
 // Opens the files of a plan, the genome file first and the output last, and runs it.
-fn carry_out<F: Files>(alloc: Global, files: &mut F, plan: &Plan) -> Finished<F::Output>
-    ensures { Ends F.Files F.Input.Source F.Output.Sink files.old (plan_seen plan.now) result.message result.output
+fn carry_out<F: Files>(alloc: Global, files: &mut F, plan: &Plan) -> Finished<F::Input, F::Output>
+    ensures { Ends F.Files F.Input.Source F.Output.Sink files.old (plan_seen plan.now) result.message result.left
         files.new }
 {
     match open_files(alloc, files, plan) {
@@ -117,17 +117,23 @@ fn carry_out<F: Files>(alloc: Global, files: &mut F, plan: &Plan) -> Finished<F:
             let ended = run_over(alloc, plan, opened);
             Finished {
                 message: end_of(alloc, plan, &ended.outcome),
-                output: Some(ended.out),
+                left: Some(OpenedFiles {
+                    genome: ended.genome,
+                    first: ended.first,
+                    second: ended.second,
+                    output: ended.out,
+                }),
             }
         }
         Err(message) => Finished {
             message,
-            output: None,
+            left: None,
         },
     }
 }
 
 // The opened files of a plan.
+#[derive(Drop)]
 struct OpenedFiles<I, O> {
     genome: Option<I>,
     first: I,
