@@ -26,7 +26,7 @@ opened_source = record {
   left = λ _. None;
   has_failed = opened_has_failed;
   end_told = opened_end_told;
-  is_read = λ before count after. TellsFailure count (opened_has_failed before) (opened_has_failed after);
+  is_read = λ before call after. TellsFailure call (opened_has_failed before) (opened_has_failed after);
 }
 
 -- whether it is standard input

@@ -54,7 +54,7 @@ impl Source for Opened {
 
     ghost end_told = { opened_end_told };
 
-    ghost is_read = { λ before count after. TellsFailure count (opened_has_failed before) (opened_has_failed after) };
+    ghost is_read = { λ before call after. TellsFailure call (opened_has_failed before) (opened_has_failed after) };
 
     fn read(&mut self, block: &mut [u8]) -> Result<usize, DeviceFailed> {
         match self {

@@ -62,7 +62,7 @@ module _ {S : Type 0} where
     pub told : end_told new ≡ true
     pub going : fault_kept new ≡ None
     pub served : device.has_failed (source_of new) ≡ device.has_failed (source_of old)
-    pub bytes : (bytes : List ℕ) × Hands device.left old bytes new
+    pub bytes : (bytes : List ℕ) × Hands device old bytes new
 
   -- a line is at fault: the last one given
   pub record EntryIsWrong (device : Source S) (old new : LineReader S)
@@ -102,7 +102,7 @@ module _ {S : Type 0} where
     pub checked : IfSome (lines_left device.left old) (λ lines. (other : FaultValue)
         → genome_of (input_of old) (take (lines_given new - lines_given old) lines) ≡ Err other
         → fault ≡ other)
-    pub bytes : (bytes : List ℕ) × Hands device.left old bytes new
+    pub bytes : (bytes : List ℕ) × Hands device old bytes new
     -- of known bytes, those after the lines given and one line more are left,
     -- except at most a block
     pub near : fault_kept old ≡ None → IsSound device old → IsNear device.left old new

@@ -110,12 +110,12 @@ module _ {S : Type 0} where
     -- it comes before the end
     pub before_end : end_told old ≡ false
     -- the complete lines among the bytes taken in the call are those that were given
-    pub cut : IsKept device old → CutsOff device.left old new
+    pub cut : IsKept device old → CutsOff device old new
 
   -- A failed read is reported for the first time only if a read of this call failed, or if the text is
   -- too long by what its reads gave. What the source did before doesn't matter. Else all reads of the
   -- call succeeded.
-  abbrev pub TellsOwnFailure : {T : Type 0} → (S → Option ℕ → S → Type 0) → Option FaultValue
+  abbrev pub TellsOwnFailure : {T : Type 0} → (S → Option (List ℕ) → S → Type 0) → Option FaultValue
       → LineReader S → Result T Fault → LineReader S → Type 0
   TellsOwnFailure IsRead before old (Ok done) new = HasRead IsRead old new
   TellsOwnFailure IsRead before old (Err fault) new = before ≡ None
@@ -152,8 +152,8 @@ module _ {S A State : Type 0} where
   room reader = line_room reader.below
 
   -- what no call changes
-  pub record Stays (left : S → Option (List ℕ)) (old new : MemberReader S A State) : Type 0 where
-    pub bytes : (bytes : List ℕ) × Hands left old.below bytes new.below
+  pub record Stays (device : Source S) (old new : MemberReader S A State) : Type 0 where
+    pub bytes : (bytes : List ℕ) × Hands device old.below bytes new.below
     pub format : new.format ≡ old.format
 
   -- a member is ahead
@@ -177,7 +177,7 @@ module _ {S A State : Type 0} where
     -- after a fault none is given
     pub was_going : old.fault ≡ None
     pub goes : new.fault ≡ old.fault
-    pub stays : Stays device.left old new
+    pub stays : Stays device old new
     pub lines : LinesPass device.left old.below new.below
     -- of known bytes, those after the lines given and its own are left, except at most a block
     pub near : IsNear device.left old.below new.below
@@ -202,7 +202,7 @@ module _ {S A State : Type 0} where
     -- after a fault no end is reported
     pub was_going : old.fault ≡ None
     pub goes : new.fault ≡ None
-    pub stays : Stays device.left old new
+    pub stays : Stays device old new
     pub shrinks : room new ≤ room old
 
   -- a line is at fault: the last one given
@@ -268,7 +268,7 @@ module _ {S A State : Type 0} where
     -- a fault is returned again, and nothing is read
     pub again : (before : FaultValue) → old.fault ≡ Some before → (fault ≡ before) × (new ≡ old)
     pub first : old.fault ≡ None → Cause device old fault new
-    pub stays : Stays device.left old new
+    pub stays : Stays device old new
     -- the lines that were given aren't left, if the line read last could be read
     pub rises : lines_given old.below ≤ lines_given new.below
     pub lines : line_fault new.below ≡ None → LinesPass device.left old.below new.below
@@ -301,7 +301,7 @@ module _ {S A State : Type 0} where
     pub format : new.format ≡ old.format
     pub given : lines_given new.below ≡ lines_given old.below + length taken
     pub below : lines_given new.below < 2 ^ 63
-    pub hands : Hands device.left old.below [] new.below
+    pub hands : Hands device old.below [] new.below
     pub source : source_of new.below ≡ source_of old.below
     pub lines : LinesPass device.left old.below new.below
     pub kept : IsKept device old.below → IsKept device new.below

@@ -1,5 +1,6 @@
 -- What calls of devices do: any, those of std, and those that play a script.
-use Rattle.std.specs.Prelude.{◌≡◌, ℕ, ◌+◌, Bool, true, false, ◌||◌, ◌&&◌, List, length, ◌==◌, nat_lt, Option, Some, None, Result, MatchResult, ◌-◌, min, nat_le}
+use Rattle.std.specs.Prelude.{◌≡◌, ℕ, ◌+◌, Bool, true, false, ◌||◌, ◌&&◌, List, [], ◌++◌, length, take, drop, ◌==◌, nat_lt, Option, Some, None, Result, Ok, Err, MatchResult, ◌-◌, min, nat_le}
+use Rattle.std.specs.Io.KnownBytes.{Consumes, Keeps}
 use Rattle.bt_lines.specs.declared.device.from_read.FromRead.{FromRead}
 use Rattle.bt_lines.specs.declared.device.to_write.ToWrite.{ToWrite}
 
@@ -10,32 +11,45 @@ abbrev pub TellsEnd : {E : Type 0} → Bool → Bool → Result ℕ E → List �
 TellsEnd old new result block =
     MatchResult result (λ n. new ≡ (old || ((n == 0) && nat_lt 0 (length block)))) (λ _. new ≡ old)
 
+-- the bytes that a read handed over, or None if it failed
+abbrev pub call_of : {E : Type 0} → Result ℕ E → List ℕ → Option (List ℕ)
+call_of (Ok count) block = Some (take count block)
+call_of (Err failed) block = None
+
 -- what a read tells of whether its source has failed, by whether it had before: one that serves
 -- comes before the first that fails
-abbrev pub TellsFailure : Option ℕ → Bool → Bool → Type 0
+abbrev pub TellsFailure : Option (List ℕ) → Bool → Bool → Type 0
 TellsFailure None had_failed has_failed = has_failed ≡ true
-TellsFailure (Some count) had_failed has_failed = (had_failed ≡ false) × (has_failed ≡ false)
+TellsFailure (Some bytes) had_failed has_failed = (had_failed ≡ false) × (has_failed ≡ false)
 
--- Reads that succeeded took the first source to the other, and gave this many bytes in all.
-pub data ReadsOn {S : Type 0} (IsRead : S → Option ℕ → S → Type 0) (first : S)
-    : ℕ → S → Type 0 where
-  begun : ReadsOn IsRead first 0 first
-  gave : {given : ℕ} {before : S} → ReadsOn IsRead first given before → (count : ℕ) (after : S)
-      → IsRead before (Some count) after → ReadsOn IsRead first (given + count) after
+-- what a read does to the bytes that are left, if they are known
+abbrev pub Gives : Option (List ℕ) → Option (List ℕ) → Option (List ℕ) → Type 0
+Gives old None new = Keeps old new
+Gives old (Some bytes) new = Consumes old new bytes
 
-module _ {S : Type 0} (IsRead : S → Option ℕ → S → Type 0) where
-  -- reads that served made the one source the other, and what they gave is counted
-  pub record ReadsCounted (old : S) (old_taken : ℕ) (new : S) (taken : ℕ) : Type 0 where
-    pub given : ℕ
-    pub served : ReadsOn IsRead old given new
-    pub counted : taken ≡ old_taken + given
+-- Reads that succeeded took the first source to the other, and handed over these bytes in all.
+pub data ReadsOn {S : Type 0} (IsRead : S → Option (List ℕ) → S → Type 0) (first : S)
+    : List ℕ → S → Type 0 where
+  begun : ReadsOn IsRead first [] first
+  gave : {bytes : List ℕ} {before : S} → ReadsOn IsRead first bytes before → (piece : List ℕ) (after : S)
+      → IsRead before (Some piece) after → ReadsOn IsRead first (bytes ++ piece) after
 
-  -- after reads that served, one failed
-  pub record ReadsFail (old new : S) : Type 0 where
-    pub given : ℕ
+module _ {S : Type 0} (IsRead : S → Option (List ℕ) → S → Type 0) where
+  -- after reads that succeeded and handed over these bytes, one failed
+  pub record FailsAfter (old : S) (bytes : List ℕ) (new : S) : Type 0 where
     pub before : S
-    pub served : ReadsOn IsRead old given before
+    pub served : ReadsOn IsRead old bytes before
     pub fails : IsRead before None new
+
+  -- reads that succeeded made the one source the other, and what they handed over is counted
+  pub record ReadsCounted (old : S) (old_taken : ℕ) (new : S) (taken : ℕ) : Type 0 where
+    pub bytes : List ℕ
+    pub served : ReadsOn IsRead old bytes new
+    pub counted : taken ≡ old_taken + length bytes
+
+  -- after reads that succeeded, one failed
+  abbrev pub ReadsFail : S → S → Type 0
+  ReadsFail old new = (bytes : List ℕ) × FailsAfter old bytes new
 
 -- What the adapters of std's readers and writers hold.
 
@@ -75,11 +89,17 @@ pub record Reading : Type 0 where
   pub has_failed : Bool
   pub end_told : Bool
 
--- a read of a script gave this many bytes, or failed and gave none
-abbrev pub IsScriptRead : Reading → Option ℕ → Reading → Type 0
-IsScriptRead before None after = (after.given ≡ before.given) × (after.has_failed ≡ true)
-IsScriptRead before (Some count) after =
-    (after.given ≡ before.given + count) × (after.has_failed ≡ before.has_failed)
+-- the bytes that a script hasn't given
+abbrev pub script_left : Reading → Option (List ℕ)
+script_left s = Some (drop s.given s.bytes)
+
+-- a read of a script gave its next bytes, or failed and gave none
+abbrev pub IsScriptRead : Reading → Option (List ℕ) → Reading → Type 0
+IsScriptRead before None after =
+    (after.given ≡ before.given) × (after.has_failed ≡ true) × Gives (script_left before) None (script_left after)
+IsScriptRead before (Some bytes) after =
+    (after.given ≡ before.given + length bytes) × (after.has_failed ≡ before.has_failed)
+    × Gives (script_left before) (Some bytes) (script_left after)
 
 -- a sink that takes at most step bytes a call, and fails once good bytes were taken
 pub record Writing : Type 0 where

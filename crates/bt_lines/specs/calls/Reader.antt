@@ -1,5 +1,5 @@
 -- What a reader of lines holds, what its calls do, and the lines that are left of those buffered.
-use Rattle.std.specs.Prelude.{◌≡◌, ℕ, suc, ◌+◌, ◌-◌, ◌≤◌, Bool, true, false, List, ◌∷◌, drop, length, nat_lt, take, ◌≢◌, ◌^◌, ◌<◌, ◌⊎◌, [], ◌++◌, Option, Some, None, option_map, Result, Ok, Err, IfSome, ⊤, vec_capacity}
+use Rattle.std.specs.Prelude.{◌≡◌, ℕ, suc, ◌+◌, ◌-◌, ◌≤◌, Bool, true, false, List, ◌∷◌, drop, length, nat_lt, take, ◌≢◌, ◌^◌, ◌<◌, ◌⊎◌, [], ◌++◌, Option, Some, None, option_map, Result, Ok, Err, IfSome, IsSome, ⊤, vec_capacity}
 use Rattle.bt_lines.specs.calls.Line.{Shown, ending_at, line_seen, GivesFirst, line_feeds}
 use Rattle.bt_lines.specs.model.Lines.{TextLine, lines_from, whole_lines_from, bytes_in, spelled}
 use Rattle.bt_lines.specs.inside.Shape.{is_fed, held_at}
@@ -8,7 +8,7 @@ use Rattle.bt_lines.specs.declared.reader.buffered_lines.ConsumedLines.{Consumed
 use Rattle.std.specs.Io.KnownBytes.{Consumes, IsAtEnd, prepend_known}
 use Rattle.bt_lines.specs.declared.device.Source.{Ghosts as Source}
 use Rattle.bt_lines.specs.inside.ReadBuffer.{complete, unread, ended_at, fault_at, open_at, taken_at, told_at}
-use Rattle.bt_lines.specs.calls.Device.{ReadsCounted, ReadsFail}
+use Rattle.bt_lines.specs.calls.Device.{FailsAfter, ReadsCounted, ReadsFail, ReadsOn}
 use Rattle.bt_lines.specs.calls.Output.{block_size}
 use Rattle.bt_lines.specs.model.Fault.{FaultValue, read_failed}
 use Rattle.bt_lines.specs.calls.Faults.{no_memory}
@@ -143,9 +143,16 @@ module _ {S : Type 0} where
     pub near : fault_kept reader ≡ None → length (held reader) ≤ block_size
 
   -- the source handed over these bytes in the call
-  pub record Hands (left : S → Option (List ℕ)) (old : LineReader S) (bytes : List ℕ)
+  pub record Hands (device : Source S) (old : LineReader S) (bytes : List ℕ)
       (new : LineReader S) : Type 0 where
-    pub left_over : Consumes (left (source_of old)) (left (source_of new)) bytes
+    -- whatever the source: by reads that succeeded, or by others and one that failed, the last one
+    pub reads : ReadsOn device.is_read (source_of old) bytes (source_of new)
+        ⊎ (FailsAfter device.is_read (source_of old) bytes (source_of new) × IsSome (fault_kept new))
+    -- after a fault nothing is read
+    pub stops : IsSome (fault_kept old)
+        → (bytes ≡ []) × (source_of new ≡ source_of old) × IsSome (fault_kept new)
+    -- known bytes lose them
+    pub left_over : Consumes (device.left (source_of old)) (device.left (source_of new)) bytes
     pub counted : bytes_taken new ≡ bytes_taken old + length bytes
     pub same_input : input_of new ≡ input_of old
     -- line feeds are counted as bytes are, unless the end was reported or the text passed the bound
@@ -160,7 +167,7 @@ module _ {S : Type 0} where
     -- it is the first of the lines left, if these are known
     pub first : GivesFirst (lines_left device.left old) line (lines_left device.left new)
     -- the bytes taken are the line's and at most a block more, known or not
-    pub bytes : (bytes : List ℕ) × Hands device.left old bytes new
+    pub bytes : (bytes : List ℕ) × Hands device old bytes new
         × (held old ++ bytes ≡ spelled line ++ held new)
     pub ahead : length (held new) ≤ block_size
     -- nothing is read while a complete line is held
@@ -180,7 +187,7 @@ module _ {S : Type 0} where
     pub none_comes : IfSome (lines_left device.left new) (λ lines. lines ≡ [])
     pub nothing_held : held new ≡ []
     pub counted : lines_given new ≡ lines_given old
-    pub bytes : (bytes : List ℕ) × Hands device.left old bytes new × (held old ++ bytes ≡ [])
+    pub bytes : (bytes : List ℕ) × Hands device old bytes new × (held old ++ bytes ≡ [])
     pub served : device.has_failed (source_of new) ≡ device.has_failed (source_of old)
     pub was_going : fault_kept old ≡ None
     pub goes : fault_kept new ≡ None
@@ -198,9 +205,9 @@ module _ {S : Type 0} where
 
   -- the piece that was cut off is no line: the line feeds among the bytes taken, the last one past
   -- the bound aside, all end lines that were given
-  pub record CutsOff (left : S → Option (List ℕ)) (old new : LineReader S) : Type 0 where
+  pub record CutsOff (device : Source S) (old new : LineReader S) : Type 0 where
     pub bytes : List ℕ
-    pub hands : Hands left old bytes new
+    pub hands : Hands device old bytes new
     pub given : lines_given new
         ≡ feeds_taken old + line_feeds (take (2 ^ 63 - 1 - bytes_taken old) bytes)
 
@@ -215,7 +222,7 @@ module _ {S : Type 0} where
   pub record GivesFault (device : Source S) (old : LineReader S)
       (fault : FaultValue) (new : LineReader S) : Type 0 where
     pub kept : fault_kept new ≡ Some fault
-    pub bytes : (bytes : List ℕ) × Hands device.left old bytes new
+    pub bytes : (bytes : List ℕ) × Hands device old bytes new
     pub counted : lines_given new ≡ lines_given old
     -- a fault is returned again, and nothing is read
     pub again : (before : FaultValue) → fault_kept old ≡ Some before → (fault ≡ before) × (new ≡ old)
@@ -226,7 +233,7 @@ module _ {S : Type 0} where
     pub no_line : fault_kept old ≡ None → line_feeds (held old) ≡ 0
     pub first : fault_kept old ≡ None → FailsToRead device old fault new ⊎ (fault ≡ no_memory)
     pub cut_off : fault_kept old ≡ None → fault ≡ read_failed (input_of old) (suc (lines_given old))
-        → CutsOff device.left old new
+        → CutsOff device old new
     -- of known bytes, those after the line that couldn't be given are left,
     -- except at most a block
     pub near : fault_kept old ≡ None → IsNear device.left old new
@@ -238,18 +245,18 @@ module _ {S : Type 0} where
   Answers device old (Ok None) new = GivesEnd device old new
   Answers device old (Err fault) new = GivesFault device old (fault_value fault) new
 
-  -- the reads of the source in between all served, and gave as many bytes as the reader counts
-  abbrev pub HasRead : (S → Option ℕ → S → Type 0) → LineReader S → LineReader S → Type 0
+  -- the reads of the source in between all served, and handed over as many bytes as the reader counts
+  abbrev pub HasRead : (S → Option (List ℕ) → S → Type 0) → LineReader S → LineReader S → Type 0
   HasRead IsRead old new =
       ReadsCounted IsRead (source_of old) (bytes_taken old) (source_of new) (bytes_taken new)
 
   -- a read in between failed, or the reads up to now gave more bytes than a text may have
-  abbrev pub IsUnread : (S → Option ℕ → S → Type 0) → LineReader S → LineReader S → Type 0
+  abbrev pub IsUnread : (S → Option (List ℕ) → S → Type 0) → LineReader S → LineReader S → Type 0
   IsUnread IsRead old new = ReadsFail IsRead (source_of old) (source_of new)
       ⊎ (HasRead IsRead old new × (2 ^ 63 ≤ bytes_taken new))
 
   -- a failed read is reported exactly if one of the reads in between failed or the text is too long
-  pub record TellsReads (IsRead : S → Option ℕ → S → Type 0) (old : LineReader S)
+  pub record TellsReads (IsRead : S → Option (List ℕ) → S → Type 0) (old : LineReader S)
       (fault : Option FaultValue) (new : LineReader S) : Type 0 where
     pub unread : (input : Input) (line : ℕ) → fault ≡ Some (read_failed input line)
         → IsUnread IsRead old new
@@ -259,7 +266,7 @@ module _ {S : Type 0} where
   -- A failed read is reported for the first time only if a read of this call failed, or if the text is
   -- too long by what its reads gave. What the source did before doesn't matter. Else all reads of the
   -- call succeeded.
-  abbrev pub TellsOwnFailure : {A : Type 0} → (S → Option ℕ → S → Type 0) → LineReader S
+  abbrev pub TellsOwnFailure : {A : Type 0} → (S → Option (List ℕ) → S → Type 0) → LineReader S
       → Result A Fault → LineReader S → Type 0
   TellsOwnFailure IsRead old (Ok done) new = HasRead IsRead old new
   TellsOwnFailure IsRead old (Err fault) new = fault_kept old ≡ None
@@ -294,7 +301,7 @@ module _ {S : Type 0} where
   -- a line was made buffered
   pub record MakesLine (device : Source S) (old new : LineReader S) : Type 0 where
     pub some : 0 < length (buffered_bytes new)
-    pub bytes : (bytes : List ℕ) × Hands device.left old bytes new × (held new ≡ held old ++ bytes)
+    pub bytes : (bytes : List ℕ) × Hands device old bytes new × (held new ≡ held old ++ bytes)
     pub same : DropsLines (lines_left device.left old) 0 (lines_left device.left new)
     pub counted : lines_given new ≡ lines_given old
     -- nothing is read while a complete line is held
@@ -371,6 +378,6 @@ module _ {S : Type 0} where
     pub told_is : end_told new ≡ end_told old
     pub ended_is : has_ended new ≡ has_ended old
     -- nothing is handed over
-    pub hands : Hands device.left old [] new
+    pub hands : Hands device old [] new
     -- and so much less is held
     pub shrinks : length (held new) + line_feeds (take consumed.bytes (buffered_bytes old)) ≤ length (held old)

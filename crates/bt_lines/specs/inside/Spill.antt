@@ -3,7 +3,7 @@
 use Rattle.std.specs.Prelude.{◌≡◌, ◌⊎◌, ℕ, suc, ◌+◌, ◌-◌, ◌^◌, ◌<◌, Bool, true, List, [], ◌∷◌, ◌++◌, length, Option}
 use Rattle.std.specs.Io.KnownBytes.{Consumes, IsAtEnd}
 use Rattle.bt_lines.specs.declared.device.Source.{Ghosts as Source}
-use Rattle.bt_lines.specs.calls.Device.{ReadsCounted, ReadsFail}
+use Rattle.bt_lines.specs.calls.Device.{FailsAfter, ReadsOn}
 use Rattle.bt_lines.specs.calls.Line.{NoLineFeed, line_feeds}
 use Rattle.bt_lines.specs.declared.reader.spill.More.{More}
 use Rattle.bt_lines.specs.declared.reader.spill.More.TheVariants.{Bytes, NoBytes, BadRead, PastBound}
@@ -30,30 +30,28 @@ abbrev pub uncounted_more : More → ℕ
 uncounted_more PastBound = 1
 uncounted_more _ = 0
 
+-- the reads of a request handed over these bytes, and only the last one may have failed
+abbrev pub IsHanded : {S : Type 0} → (S → Option (List ℕ) → S → Type 0) → More → S → List ℕ → S → Type 0
+IsHanded IsRead BadRead old bytes new = FailsAfter IsRead old bytes new
+IsHanded IsRead _ old bytes new = ReadsOn IsRead old bytes new
+
+-- and those up to a stop
+abbrev pub AreHanded : {S : Type 0} → (S → Option (List ℕ) → S → Type 0) → Stop → S → List ℕ → S → Type 0
+AreHanded IsRead Failed old bytes new = FailsAfter IsRead old bytes new
+AreHanded IsRead _ old bytes new = ReadsOn IsRead old bytes new
+
 module _ {S : Type 0} (device : Source S) where
   -- more bytes were requested
   pub record AsksMore (old : S) (old_unread : List ℕ) (old_taken : ℕ) (more : More)
       (new : S) (unread : List ℕ) (taken : ℕ) : Type 0 where
     pub bytes : List ℕ
     pub consumed : Consumes (device.left old) (device.left new) bytes
+    pub handed : IsHanded device.is_read more old bytes new
     pub counted : taken + uncounted_more more ≡ old_taken + length bytes
     pub within : taken < 2 ^ 63
     pub came : MoreComes more (device.left new)
         (device.has_failed old) (device.has_failed new) (device.end_told new)
         bytes old_unread unread taken
-
-module _ {S : Type 0} (IsRead : S → Option ℕ → S → Type 0) where
-  -- the read for more bytes gave as many as are counted, or failed
-  abbrev pub IsCounted : More → S → ℕ → S → ℕ → Type 0
-  IsCounted BadRead old old_taken new taken = ReadsFail IsRead old new
-  IsCounted PastBound old old_taken new taken = ReadsCounted IsRead old old_taken new (suc taken)
-  IsCounted _ old old_taken new taken = ReadsCounted IsRead old old_taken new taken
-
-  -- the reads up to a stop gave as many bytes as are counted, or the last one failed
-  abbrev pub AreCounted : Stop → S → ℕ → S → ℕ → Type 0
-  AreCounted Failed old old_taken new taken = ReadsFail IsRead old new
-  AreCounted TooLong old old_taken new taken = ReadsCounted IsRead old old_taken new (suc taken)
-  AreCounted _ old old_taken new taken = ReadsCounted IsRead old old_taken new taken
 
 -- a last piece with a line feed; an empty one is no line
 abbrev pub closed : List ℕ → List ℕ
@@ -81,6 +79,7 @@ module _ {S : Type 0} (device : Source S) where
       (new : S) (complete unread : List ℕ) (taken : ℕ) : Type 0 where
     pub bytes : List ℕ
     pub consumed : Consumes (device.left old) (device.left new) bytes
+    pub handed : AreHanded device.is_read stop old bytes new
     pub counted : taken + uncounted stop ≡ old_taken + length bytes
     pub within : taken < 2 ^ 63
     -- nothing is read while a line feed is held

@@ -2,7 +2,7 @@
 
 ghost use Rattle.std.specs.Prelude.{◌≡◌, ℕ, ◌≤◌, false, true, IsTrue, IsErr, length, IfOk, OnOk, OnErr};
 ghost use Rattle.std.specs.Io.KnownBytes.{ReadConsumes};
-ghost use Rattle.bt_lines.specs.calls.Device.{TellsEnd, TellsFailure, reader_of, read_has_failed, read_end_told};
+ghost use Rattle.bt_lines.specs.calls.Device.{Gives, TellsEnd, TellsFailure, call_of, reader_of, read_has_failed, read_end_told};
 
 use crate::device::{DeviceFailed, Source};
 use std::io::Read;
@@ -49,7 +49,8 @@ impl<R: Read> Source for FromRead<R> {
 
     ghost end_told = { read_end_told };
 
-    ghost is_read = { λ before count after. TellsFailure count (read_has_failed before) (read_has_failed after) };
+    ghost is_read = { λ before call after. TellsFailure call (read_has_failed before) (read_has_failed after)
+        × Gives (R.remaining (reader_of before)) call (R.remaining (reader_of after)) };
 
     fn read(&mut self, block: &mut [u8]) -> Result<usize, DeviceFailed>
         ensures within { IfOk result (λ n. n ≤ length block.new) }
@@ -57,9 +58,8 @@ impl<R: Read> Source for FromRead<R> {
             (R.remaining (reader_of self.new)) result block.new }
         ensures served { OnOk result (read_has_failed self.new ≡ read_has_failed self.old) }
         ensures failed { OnErr result (read_has_failed self.new ≡ true) }
-        ensures counted { OnOk result
-            ((read_has_failed self.old ≡ false) × (read_has_failed self.new ≡ false)) }
-        ensures refused { OnErr result (read_has_failed self.new ≡ true) }
+        ensures handed { TellsFailure (call_of result block.new) (read_has_failed self.old) (read_has_failed self.new)
+            × Gives (R.remaining (reader_of self.old)) (call_of result block.new) (R.remaining (reader_of self.new)) }
         ensures end { TellsEnd (read_end_told self.old) (read_end_told self.new) result block.new }
         ensures for_good { IsTrue (read_has_failed self.old) → IsErr result × (self.new ≡ self.old) }
     {

@@ -7,7 +7,7 @@ pub(crate) mod to_write;
 
 ghost use Rattle.std.specs.Prelude.{◌≡◌, ℕ, ◌<◌, ◌≤◌, Bool, true, false, Option, Some, None, List, length, IfNone, IfSome, IfOk, OnOk, OnErr};
 ghost use Rattle.std.specs.Io.KnownBytes.{Keeps, ReadConsumes, WriteAppends};
-ghost use Rattle.bt_lines.specs.calls.Device.{TellsEnd, is_spent, let_through};
+ghost use Rattle.bt_lines.specs.calls.Device.{TellsEnd, call_of, is_spent, let_through};
 
 /// How many bytes a reader buffers at most, and an output holds back.
 pub const BLOCK: usize = 8192;
@@ -28,9 +28,9 @@ pub trait Source {
     // Whether a read has reported the end, by returning 0 for a block with room.
     ghost end_told: { Self → Bool };
 
-    // A read took the one source to the other and gave this many bytes, or failed if there is no count.
+    // A read took the one source to the other and handed over these bytes, or failed if there are none to name.
     // Only `read` gives it.
-    ghost is_read: { Self → Option ℕ → Self → Type 0 };
+    ghost is_read: { Self → Option (List ℕ) → Self → Type 0 };
 
     /// Hands over the next bytes, as many as it likes of those that fit the block, and 0 for a block
     /// with room only at the end. An error isn't tried again.
@@ -39,8 +39,7 @@ pub trait Source {
         ensures bytes { ReadConsumes (left self.old) (left self.new) result block.new }
         ensures served { OnOk result (has_failed self.new ≡ has_failed self.old) }
         ensures failed { OnErr result (has_failed self.new ≡ true) }
-        ensures counted { IfOk result (λ n. is_read self.old (Some n) self.new) }
-        ensures refused { OnErr result (is_read self.old None self.new) }
+        ensures handed { is_read self.old (call_of result block.new) self.new }
         ensures end { TellsEnd (end_told self.old) (end_told self.new) result block.new };
 
     /// Whether a read has failed. Once true, it stays so.

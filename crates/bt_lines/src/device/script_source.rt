@@ -2,7 +2,7 @@
 
 ghost use Rattle.std.specs.Prelude.{◌≡◌, ℕ, ◌<◌, ◌≤◌, ◌↔◌, IsTrue, length, IfNone, IfSome, IfOk, OnOk, OnErr, Some, true, false, drop, take, IsErr, min, ◌+◌, ◌-◌};
 ghost use Rattle.std.specs.Io.KnownBytes.{ReadConsumes};
-ghost use Rattle.bt_lines.specs.calls.Device.{TellsEnd, IsScriptRead, is_spent, let_through};
+ghost use Rattle.bt_lines.specs.calls.Device.{TellsEnd, IsScriptRead, call_of, is_spent, let_through};
 
 use crate::device::{DeviceFailed, Source, let_through};
 use std::marker::Model;
@@ -99,10 +99,7 @@ impl Source for ScriptSource<'_> {
             (Some (drop self.new.given self.new.bytes)) result block.new }
         ensures served { OnOk result (self.new.has_failed ≡ self.old.has_failed) }
         ensures failed { OnErr result (self.new.has_failed ≡ true) }
-        ensures counted { IfOk result (λ n. (self.new.given ≡ self.old.given + n)
-            × (self.new.has_failed ≡ self.old.has_failed)) }
-        ensures refused { OnErr result
-            ((self.new.given ≡ self.old.given) × (self.new.has_failed ≡ true)) }
+        ensures handed { IsScriptRead self.old (call_of result block.new) self.new }
         ensures end { TellsEnd self.old.end_told self.new.end_told result block.new }
 
         ensures spent { IsErr result ↔ IsTrue (is_spent self.old.good self.old.given) }

@@ -128,7 +128,8 @@ impl ReadBuffer {
         requires some { 0 < most }
         requires room { length (unread self.old) < block_size }
         ensures bytes { IfOk result (λ n. n ≤ most × ((piece : List ℕ) × (n ≡ length piece)
-            × Consumes (S.left source.old) (S.left source.new) piece × (unread self.new ≡ unread self.old ++ piece))) }
+            × Consumes (S.left source.old) (S.left source.new) piece × (unread self.new ≡ unread self.old ++ piece)
+            × S.is_read source.old (Some piece) source.new)) }
         ensures end { IfOk result (λ n. n ≡ 0
             → (S.end_told source.new ≡ true) × IsAtEnd (S.left source.new)) }
         ensures served { OnOk result (S.has_failed source.new ≡ S.has_failed source.old) }
@@ -138,7 +139,6 @@ impl ReadBuffer {
         ensures plain { self.new.is_spilled ≡ false }
         ensures front { self.new.whole ≡ 0 }
         ensures spilled { self.new.spilled ≡ self.old.spilled }
-        ensures counted { IfOk result (λ n. S.is_read source.old (Some n) source.new) }
         ensures refused { OnErr result (S.is_read source.old None source.new) }
     {
         self.move_front();
@@ -313,7 +313,7 @@ fn read_behind<S: Source>(
     ensures served { OnOk result (S.has_failed source.new ≡ S.has_failed source.old) }
     ensures failed { OnErr result ((S.has_failed source.new ≡ true)
         × Keeps (S.left source.old) (S.left source.new)) }
-    ensures counted { IfOk result (λ n. S.is_read source.old (Some n) source.new) }
+    ensures handed { IfOk result (λ n. S.is_read source.old (Some (slice_range bytes.new from (from + n))) source.new) }
     ensures refused { OnErr result (S.is_read source.old None source.new) }
 {
     source.read(&mut bytes[from..from + most])

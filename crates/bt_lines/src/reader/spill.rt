@@ -4,7 +4,7 @@ ghost use Rattle.std.specs.Prelude.{◌≡◌, ◌+◌, ◌<◌, ◌≤◌, ◌^
 ghost use Rattle.bt_lines.specs.calls.Output.{block_size};
 ghost use Rattle.bt_lines.specs.inside.ReadBuffer.{complete, unread};
 ghost use Rattle.bt_lines.specs.calls.Line.{NoLineFeed};
-ghost use Rattle.bt_lines.specs.inside.Spill.{AreCounted, AsksMore, Buffers, IsCounted};
+ghost use Rattle.bt_lines.specs.inside.Spill.{AsksMore, Buffers};
 
 use crate::device::Source;
 use crate::reader::read_buffer::ReadBuffer;
@@ -42,7 +42,7 @@ pub(crate) enum More {
 
 // Makes at least one line buffered, or the end, if none is. It counts all bytes that it takes. Memory runs out only if the
 // bytes of the line so far fill the block and the room that the vector had.
-#[tactic(auto, using(crate::proofs::lemmas::reader::block::ReadsLemmas::counts_then, crate::proofs::lemmas::reader::block::BufferLemmas::more_read, crate::proofs::lemmas::reader::block::BufferLemmas::not_full, crate::proofs::lemmas::reader::block::BufferLemmas::unread_fits))]
+#[tactic(auto, using(crate::proofs::lemmas::reader::block::BufferLemmas::more_read, crate::proofs::lemmas::reader::block::BufferLemmas::not_full, crate::proofs::lemmas::reader::block::BufferLemmas::unread_fits))]
 pub(crate) fn read_lines<S: Source>(
     source: &mut S,
     buffer: &mut ReadBuffer,
@@ -52,7 +52,6 @@ pub(crate) fn read_lines<S: Source>(
     requires none { complete buffer.old ≡ [] }
     ensures buffers { Buffers S.Source source.old (unread buffer.old) taken.old result
         source.new (complete buffer.new) (unread buffer.new) taken.new }
-    ensures counted { AreCounted S.is_read result source.old taken.old source.new taken.new }
     ensures full { result ≡ Stop.NoMemory → block_size + taken.old ≤ length (unread buffer.old) + taken.new }
     ensures memory { result ≡ Stop.NoMemory → vec_capacity buffer.old.spilled + taken.old ≤ length (unread buffer.old) + taken.new }
 {
@@ -74,7 +73,7 @@ pub(crate) fn read_lines<S: Source>(
 }
 
 // Reads on in a line that fills the block: moves it to a vector, and reads up to its line feed.
-#[tactic(auto, using(crate::proofs::lemmas::reader::block::ReadsLemmas::counts_then, crate::proofs::lemmas::reader::block::BufferLemmas::at_first, crate::proofs::lemmas::reader::block::ReadsLemmas::counts_none, crate::proofs::lemmas::reader::block::BufferLemmas::more_came))]
+#[tactic(auto, using(crate::proofs::lemmas::reader::block::BufferLemmas::at_first, crate::proofs::lemmas::reader::block::BufferLemmas::more_came))]
 fn read_long<S: Source>(source: &mut S, buffer: &mut ReadBuffer, taken: &mut u64) -> Stop
     requires counted { taken.old < 2 ^ 63 }
     requires none { complete buffer.old ≡ [] }
@@ -82,7 +81,6 @@ fn read_long<S: Source>(source: &mut S, buffer: &mut ReadBuffer, taken: &mut u64
     requires full { block_size ≤ length (unread buffer.old) }
     ensures buffers { Buffers S.Source source.old (unread buffer.old) taken.old result
         source.new (complete buffer.new) (unread buffer.new) taken.new }
-    ensures counted { AreCounted S.is_read result source.old taken.old source.new taken.new }
     ensures full { result ≡ Stop.NoMemory → block_size + taken.old ≤ length (unread buffer.old) + taken.new }
     ensures memory { result ≡ Stop.NoMemory → vec_capacity buffer.old.spilled + taken.old ≤ length (unread buffer.old) + taken.new }
 {
@@ -112,7 +110,7 @@ fn read_long<S: Source>(source: &mut S, buffer: &mut ReadBuffer, taken: &mut u64
 }
 
 // Reads more bytes, and one past the bound only once the bound is reached.
-#[tactic(auto, using(crate::proofs::lemmas::reader::block::ReadsLemmas::fails_once))]
+#[tactic(auto, using(crate::proofs::lemmas::reader::block::ReadsLemmas::fails_once, crate::proofs::lemmas::reader::block::ReadsLemmas::reads_one))]
 fn ask_more<S: Source>(source: &mut S, buffer: &mut ReadBuffer, taken: &mut u64) -> More
     requires counted { taken.old < 2 ^ 63 }
     requires none { complete buffer.old ≡ [] }
@@ -124,7 +122,6 @@ fn ask_more<S: Source>(source: &mut S, buffer: &mut ReadBuffer, taken: &mut u64)
     ensures front { buffer.new.whole ≡ 0 }
     ensures spilled { buffer.new.spilled.items ≡ buffer.old.spilled.items }
     ensures room { vec_capacity buffer.new.spilled ≡ vec_capacity buffer.old.spilled }
-    ensures counted { IsCounted S.is_read result source.old taken.old source.new taken.new }
 {
     let room = BOUND - *taken;
     match buffer.read_more(source, room.max(1)) {

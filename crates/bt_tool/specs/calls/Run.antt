@@ -140,14 +140,14 @@ module _ {G : Type 0} (device : Source G) where
 
 -- A failed read is reported only if a read of the run failed, whatever its source did before.
 
--- The last read of a run failed, whatever the source did before, or its reads served and gave more
--- bytes than a text may have.
-abbrev pub IsOwnFailure : {S : Type 0} → (S → Option ℕ → S → Type 0) → S → S → Type 0
+-- The last read of a run failed, whatever the source did before, or its reads served and handed
+-- over more bytes than a text may have.
+abbrev pub IsOwnFailure : {S : Type 0} → (S → Option (List ℕ) → S → Type 0) → S → S → Type 0
 IsOwnFailure IsRead before after = ReadsFail IsRead before after
-    ⊎ ((given : ℕ) × ReadsOn IsRead before given after × (2 ^ 63 ≤ given))
+    ⊎ ((bytes : List ℕ) × ReadsOn IsRead before bytes after × (2 ^ 63 ≤ length bytes))
 
--- The input is there, and its last read failed, or its reads served and gave more bytes than a text may have.
-abbrev pub IsOwnFailureIf : {S : Type 0} → (S → Option ℕ → S → Type 0) → Option S → Option S
+-- The input is there, and its last read failed, or its reads served and handed over more bytes than a text may have.
+abbrev pub IsOwnFailureIf : {S : Type 0} → (S → Option (List ℕ) → S → Type 0) → Option S → Option S
     → Type 0
 IsOwnFailureIf IsRead (Some before) (Some after) = IsOwnFailure IsRead before after
 IsOwnFailureIf IsRead _ _ = ⊥
@@ -160,11 +160,11 @@ abbrev pub AnswersNoRead : {T : Type 0} → Result T Fault → Type 0
 AnswersNoRead (Ok done) = ⊤
 AnswersNoRead (Err fault) = TellsNoRead (Some (fault_value fault))
 
--- all reads of a run served
-pub record ReadsServe {S : Type 0} (IsRead : S → Option ℕ → S → Type 0)
+-- all reads of a run served, and handed over these bytes
+pub record ReadsServe {S : Type 0} (IsRead : S → Option (List ℕ) → S → Type 0)
     (before after : S) : Type 0 where
-  pub given : ℕ
-  pub served : ReadsOn IsRead before given after
+  pub bytes : List ℕ
+  pub served : ReadsOn IsRead before bytes after
 
 -- a failed read is reported of an input only if this holds of it
 pub record TellsOwnReads (OfGenome OfFirst OfSecond : Type 0) (fault : Option FaultValue) : Type 0 where

@@ -49,13 +49,13 @@ lines_read format state lines =
 
 -- a failed read that is kept is of the reads since then: the last of them failed, whatever the
 -- source did before, or the text is too long
-abbrev pub IsOwnFault : {S : Type 0} → (S → Option ℕ → S → Type 0) → LineReader S → Option FaultValue
+abbrev pub IsOwnFault : {S : Type 0} → (S → Option (List ℕ) → S → Type 0) → LineReader S → Option FaultValue
     → LineReader S → Type 0
 IsOwnFault IsRead old kept new =
     (input : Input) (line : ℕ) → kept ≡ Some (read_failed input line) → IsUnread IsRead old new
 
 -- so it is of the one that a reader of members keeps
-abbrev pub KeepsOwnFault : {S A State : Type 0} → (S → Option ℕ → S → Type 0) → LineReader S
+abbrev pub KeepsOwnFault : {S A State : Type 0} → (S → Option (List ℕ) → S → Type 0) → LineReader S
     → MemberReader S A State → Type 0
 KeepsOwnFault IsRead old reader = IsOwnFault IsRead old reader.fault reader.below
 
@@ -83,7 +83,7 @@ module _ {S A State : Type 0} (device : Source S) where
     -- these members were consumed, and more may be buffered
     pub record PassesMembers (past : List (Member A)) (now : MemberReader S A State) : Type 0 where
       pub format : now.format ≡ old.format
-      pub bytes : (bytes : List ℕ) × Hands device.left old.below bytes now.below
+      pub bytes : (bytes : List ℕ) × Hands device old.below bytes now.below
       pub said : AreSaid old.format old.state (member_items past)
       pub state : now.state ≡ state_behind old.format old.state (member_items past)
       pub come : ComeFirst (good_coming device.left old) past (good_coming device.left now)
@@ -143,7 +143,7 @@ module _ {S A State : Type 0} (device : Source S) where
       pub is : fault ≡ read_failed (input_of old.below) (suc (lines_given new.below))
       pub kept : new.fault ≡ Some fault
       pub cause : (device.has_failed (source_of new.below) ≡ true) ⊎ (2 ^ 63 ≤ bytes_taken new.below)
-      pub cut : CutsOff device.left old.below new.below
+      pub cut : CutsOff device old.below new.below
       -- the lines given have these members, and none of them is at fault
       pub members : IfSome (good_coming device.left old) (λ good. (rest : List (Member A))
           × (good.members ≡ past ++ rest)
@@ -164,7 +164,7 @@ module _ {S A State : Type 0} (device : Source S) where
     -- the reader stopped after these members
     pub record StopsAfter (Kinds : Kind → Type 0) (past : List (Member A)) (fault : FaultValue)
         (new : MemberReader S A State) : Type 0 where
-      pub bytes : (bytes : List ℕ) × Hands device.left old.below bytes new.below
+      pub bytes : (bytes : List ℕ) × Hands device old.below bytes new.below
       pub cause : HasFaultBehind Kinds past fault new ⊎ LacksMemory fault new
 
 -- What feeding an engine with the members of a reader does to the devices.
@@ -210,7 +210,7 @@ module _ {S A State : Type 0} (settled : List A → List ℕ) (Kinds : Kind → 
   -- these members were taken
   pub record Took (old : MemberReader S A State) (out : Output) (past : List (Member A))
       (new : MemberReader S A State) (grown : Output) : Type 0 where
-    pub bytes : (bytes : List ℕ) × Hands device.left old.below bytes new.below
+    pub bytes : (bytes : List ℕ) × Hands device old.below bytes new.below
     -- they are ordered as the input's format requires
     pub sorted : Sorted (member_items past)
     pub grows : Grows out.took grown.took

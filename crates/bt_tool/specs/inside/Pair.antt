@@ -134,8 +134,8 @@ module _ {A B X Y U V : Type 0} (join : JoinDef X Y) (pair : Pair A B X Y U V)
     pub given_begin : IfSome (good_coming pair.source_a.left pair.first)
         (λ good. (rest : List X) × (items_in good ≡ given ++ rest))
     pub fits : IsKnown pair → join.Fits given taken
-    pub first_bytes : (bytes : List ℕ) × Hands pair.source_a.left pair.first.below bytes first.below
-    pub second_bytes : (bytes : List ℕ) × Hands pair.source_b.left pair.second.below bytes second.below
+    pub first_bytes : (bytes : List ℕ) × Hands pair.source_a pair.first.below bytes first.below
+    pub second_bytes : (bytes : List ℕ) × Hands pair.source_b pair.second.below bytes second.below
     pub grows : Grows out.took grown.took
 
   -- all good members of the first input are written, and its fault is reported

@@ -24,7 +24,7 @@ impl Source for FailedBefore<'_> {
 
     ghost end_told = { λ s. s.end_told };
 
-    ghost is_read = { λ _ count _. IsSome count };
+    ghost is_read = { λ _ call _. IsSome call };
 
     fn read(&mut self, block: &mut [u8]) -> Result<usize, DeviceFailed> {
         if block.is_empty() {

@@ -14,7 +14,8 @@ use Rattle.bt_lines.specs.declared.fault.Place.{Place}
 use Rattle.bt_bed.specs.calls.Reading.{IsLost, LinesPass}
 use Rattle.bt_bed.specs.model.BedLine.{fault_at_line}
 use Rattle.bt_lines.specs.declared.device.Source.{Ghosts as Source}
-use Rattle.bt_lines.proofs.lemmas.reader.lines.TakingLemmas.{given_drops, hands_both, sound_near, taken_below, not_told}
+use Rattle.bt_lines.proofs.lemmas.reader.block.ReadsLemmas.{hands_both}
+use Rattle.bt_lines.proofs.lemmas.reader.lines.TakingLemmas.{given_drops, sound_near, taken_below, not_told}
 use Rattle.bt_lines.proofs.lemmas.reader.lines.TextLemmas.{line_feeds-append}
 use Rattle.bt_lines.specs.calls.Output.{block_size}
 use Rattle.bt_lines.specs.calls.Reader.{CutsOff, GivesFault, GivesLine, Hands, IsNear, IsSound, bytes_taken, fault_kept, input_of, lines_given, lines_left, source_of, end_told, GivesEnd, FailsToRead}
@@ -129,7 +130,7 @@ module _ {S : Type 0} (device : Source S) where
   pub record Passed (old now : LineReader S) : Type 0 where
     pub lines : LinesPass device.left old now
     pub least : lines_given old ≤ lines_given now
-    pub bytes : (bytes : List ℕ) × Hands device.left old bytes now
+    pub bytes : (bytes : List ℕ) × Hands device old bytes now
     pub sound : IsSound device old → IsSound device now
 
   module _ (old now new : LineReader S) (p : Passed old now) where
@@ -137,7 +138,7 @@ module _ {S : Type 0} (device : Source S) where
     passed_line line gives sound = record {
       lines = pass_more (lines_left device.left old) (lines_left device.left now) (lines_left device.left new) (lines_given now - lines_given old) 1 (lines_given new - lines_given old) p.lines (given_drops (lines_left device.left now) line (lines_left device.left new) gives.first) (let one = gives.counted in let least = p.least in omega arith);
       least = let one = gives.counted in let least = p.least in omega arith;
-      bytes = (p.bytes.0 ++ gives.bytes.0, hands_both device.left old now new p.bytes.0 gives.bytes.0 p.bytes.1 gives.bytes.1);
+      bytes = (p.bytes.0 ++ gives.bytes.0, hands_both device old now new p.bytes.0 gives.bytes.0 p.bytes.1 gives.bytes.1);
       sound = λ was. sound (p.sound was);
     }
 
@@ -148,7 +149,7 @@ module _ {S : Type 0} (device : Source S) where
         (let same = gives.counted in let least = p.least in omega arith) (gives.near going)
 
     -- the line feeds among the bytes taken all end lines that were given
-    pub cut_fault : (fault : FaultValue) → GivesFault device now fault new → fault_kept now ≡ None → fault ≡ read_failed (input_of now) (suc (lines_given now)) → CutsOff device.left old new
+    pub cut_fault : (fault : FaultValue) → GivesFault device now fault new → fault_kept now ≡ None → fault ≡ read_failed (input_of now) (suc (lines_given now)) → CutsOff device old new
     cut_fault fault gives going is =
         let cut = gives.cut_off going is in
         let within : bytes_taken now < 2 ^ 63 = taken_below now going in
@@ -156,7 +157,7 @@ module _ {S : Type 0} (device : Source S) where
         let counted = p.bytes.1.counted in
         let given = cut.given in
         let front = front_of_both p.bytes.0 cut.bytes (2 ^ 63 - 1 - bytes_taken old) (2 ^ 63 - 1 - bytes_taken now) (omega arith) in
-        grind (arith, (hands_both device.left old now new p.bytes.0 cut.bytes p.bytes.1 cut.hands), (line_feeds-append p.bytes.0 (take (2 ^ 63 - 1 - bytes_taken now) cut.bytes)))
+        grind (arith, (hands_both device old now new p.bytes.0 cut.bytes p.bytes.1 cut.hands), (line_feeds-append p.bytes.0 (take (2 ^ 63 - 1 - bytes_taken now) cut.bytes)))
 
   -- of known bytes, those after the lines given are left, and so those after one more
   pub near_line : (old new : LineReader S) → Passed old new → fault_kept new ≡ None → IsSound device old → IsNear device.left old new
@@ -330,8 +331,8 @@ module _ {S : Type 0} (device : Source S) (old : LineReader S) where
   distinct_line : (text : List ℕ) (genome grown : Genome) → AreDistinct (names_of genome) → LineAdded text genome grown → AreDistinct (names_of grown)
   distinct_line text genome grown d added = rw added.added (distinct_more (entries genome) (entry_of text) added.entry d added.says)
 
-  both : (now next : LineReader S) → (bytes : List ℕ) × Hands device.left old bytes now → (bytes : List ℕ) × Hands device.left now bytes next → (bytes : List ℕ) × Hands device.left old bytes next
-  both now next h more = (h.0 ++ more.0, hands_both device.left old now next h.0 more.0 h.1 more.1)
+  both : (now next : LineReader S) → (bytes : List ℕ) × Hands device old bytes now → (bytes : List ℕ) × Hands device now bytes next → (bytes : List ℕ) × Hands device old bytes next
+  both now next h more = (h.0 ++ more.0, hands_both device old now next h.0 more.0 h.1 more.1)
 
   same_input : (now : LineReader S) (genome : Genome) → Going device old now genome → input_of now ≡ input_of old
   same_input now genome g = g.passed.bytes.1.same_input

@@ -1,7 +1,7 @@
 -- Lemmas on lines that a reader of records takes one after another.
 use Rattle.bt_lines.proofs.Std.{◌≡◌, ℕ, suc, ◌+◌, ◌-◌, ◌^◌, ◌<◌, ◌≤◌, List, [], ◌∷◌, ◌++◌, length, take, drop, Option, Some, None, sym, ap, ◌∙◌, arith, false, length-append, IfSome, option_map, take-append-add, drop-drop, true, Ok, Err, refl, inl, inr, ◌⊎◌, Result}
 use Rattle.bt_lines.specs.declared.device.Source.{Ghosts as Source}
-use Rattle.bt_lines.proofs.lemmas.reader.lines.TakingLemmas.{hands_both, hands_none, is_prefix, near_next, not_told, next_below}
+use Rattle.bt_lines.proofs.lemmas.reader.lines.TakingLemmas.{is_prefix, near_next, not_told, next_below}
 use Rattle.bt_lines.proofs.lemmas.reader.lines.TextLemmas.{line_feeds-append, lines_are_numbered}
 use Rattle.bt_lines.specs.model.Fault.{FaultValue, read_failed}
 use Rattle.bt_lines.specs.calls.Faults.{no_memory}
@@ -17,7 +17,7 @@ use Rattle.bt_lines.specs.declared.fault.Kind.{Kind}
 use Rattle.bt_bed.proofs.lemmas.read.good.SaidLemmas.{beyond_from}
 use Rattle.bt_bed.specs.model.Good.{with_member, Format, Good, Member, ends_with, good, good_from}
 use Rattle.bt_bed.specs.model.BedLine.{fault_at_line}
-use Rattle.bt_lines.proofs.lemmas.reader.block.ReadsLemmas.{tells_no_memory, tells_read, tells_then}
+use Rattle.bt_lines.proofs.lemmas.reader.block.ReadsLemmas.{hands_both, hands_none, tells_no_memory, tells_read, tells_then}
 use Rattle.bt_lines.specs.calls.Names.{fault_value}
 use Rattle.bt_lines.specs.declared.fault.Fault.{Fault}
 use Rattle.bt_lines.specs.declared.fault.Place.{Place}
@@ -45,7 +45,7 @@ first_by a b c line more buffered count s p is d one = grind arith
 -- the reader's next line was made buffered, and taken
 pub record LineCame {S : Type 0} (device : Source S) (old : LineReader S) (line : TextLine) (new : LineReader S) : Type 0 where
   pub first : GivesFirst (lines_left device.left old) line (lines_left device.left new)
-  pub bytes : (bytes : List ℕ) × Hands device.left old bytes new
+  pub bytes : (bytes : List ℕ) × Hands device old bytes new
   pub number : line.number ≡ suc (lines_given old)
   pub counted : lines_given new ≡ suc (lines_given old)
   pub below : lines_given new < 2 ^ 63
@@ -67,7 +67,7 @@ module _ {S : Type 0} (device : Source S) (old mid new : LineReader S) (makes : 
     pub line_came : LineCame device old line new
     line_came = record {
       first = first_by (lines_left device.left old) (lines_left device.left mid) (lines_left device.left new) line more (buffered_in mid) (line_feeds (take consumed.bytes (buffered_bytes mid))) makes.same (is_prefix device.left mid) first takes.left_is are.feeds;
-      bytes = (makes.bytes.0 ++ [], hands_both device.left old mid new makes.bytes.0 [] makes.bytes.1 takes.hands);
+      bytes = (makes.bytes.0 ++ [], hands_both device old mid new makes.bytes.0 [] makes.bytes.1 takes.hands);
       number = number ∙ ap suc makes.counted;
       counted = omega (arith, takes.given, are.given, makes.counted);
       below = takes.below;
@@ -83,7 +83,7 @@ module _ {S : Type 0} (device : Source S) where
   pub record Came (old now : LineReader S) : Type 0 where
     pub lines : LinesPass device.left old now
     pub least : lines_given old ≤ lines_given now
-    pub bytes : (bytes : List ℕ) × Hands device.left old bytes now
+    pub bytes : (bytes : List ℕ) × Hands device old bytes now
     pub kept : IsKept device old → IsKept device now
 
   pub came_none : (reader : LineReader S) → Came reader reader
@@ -103,7 +103,7 @@ module _ {S : Type 0} (device : Source S) where
     came_line line came kept = record {
       lines = pass_more (lines_left device.left old) (lines_left device.left now) (lines_left device.left new) (lines_given now - lines_given old) 1 (lines_given new - lines_given old) p.lines (grind arith) (omega (arith, came.counted, p.least));
       least = omega (arith, came.counted, p.least);
-      bytes = (p.bytes.0 ++ came.bytes.0, hands_both device.left old now new p.bytes.0 came.bytes.0 p.bytes.1 came.bytes.1);
+      bytes = (p.bytes.0 ++ came.bytes.0, hands_both device old now new p.bytes.0 came.bytes.0 p.bytes.1 came.bytes.1);
       kept = λ was. kept (p.kept was);
     }
 
@@ -113,7 +113,7 @@ module _ {S : Type 0} (device : Source S) where
       lines = pass_more (lines_left device.left old) (lines_left device.left now) (lines_left device.left new) (lines_given now - lines_given old) (lines_given new - lines_given now) (lines_given new - lines_given old) p.lines
           (grind arith) (omega (arith, makes.counted, p.least));
       least = omega (arith, makes.counted, p.least);
-      bytes = (p.bytes.0 ++ makes.bytes.0, hands_both device.left old now new p.bytes.0 makes.bytes.0 p.bytes.1 makes.bytes.1);
+      bytes = (p.bytes.0 ++ makes.bytes.0, hands_both device old now new p.bytes.0 makes.bytes.0 p.bytes.1 makes.bytes.1);
       kept = λ was. kept (p.kept was);
     }
 
@@ -124,12 +124,12 @@ module _ {S : Type 0} (device : Source S) where
         (omega (arith, gives.counted, p.least)) (gives.near going)
 
     -- the line feeds among the bytes taken all end lines that were given
-    pub cut_fault : (fault : FaultValue) → GivesFault device now fault new → fault_kept now ≡ None → fault ≡ read_failed (input_of now) (suc (lines_given now)) → IsKept device old → CutsOff device.left old new
+    pub cut_fault : (fault : FaultValue) → GivesFault device now fault new → fault_kept now ≡ None → fault ≡ read_failed (input_of now) (suc (lines_given now)) → IsKept device old → CutsOff device old new
     cut_fault fault gives going is kept =
         let cut = gives.cut_off going is in
         let within : bytes_taken now < 2 ^ 63 = (p.kept kept).within going in
         let front = front_of_both p.bytes.0 cut.bytes (2 ^ 63 - 1 - bytes_taken old) (2 ^ 63 - 1 - bytes_taken now) (omega arith) in
-        grind (arith, (hands_both device.left old now new p.bytes.0 cut.bytes p.bytes.1 cut.hands), (line_feeds-append p.bytes.0 (take (2 ^ 63 - 1 - bytes_taken now) cut.bytes)))
+        grind (arith, (hands_both device old now new p.bytes.0 cut.bytes p.bytes.1 cut.hands), (line_feeds-append p.bytes.0 (take (2 ^ 63 - 1 - bytes_taken now) cut.bytes)))
 
 -- Lemmas on a step of a reader of members, whatever the lines say.
 
@@ -219,10 +219,10 @@ module _ {S A State : Type 0} (device : Source S) where
     pub going_start : old.buffered ≡ [] → old.fault ≡ line_fault old.below → Going old old
     going_start none rest = grind arith
 
-    more_bytes : (now : MemberReader S A State) (reader : LineReader S) → Going old now → (bytes : List ℕ) × Hands device.left now.below bytes reader → (bytes : List ℕ) × Hands device.left old.below bytes reader
-    more_bytes now reader g more = (g.passed.bytes.0 ++ more.0, hands_both device.left old.below now.below reader g.passed.bytes.0 more.0 g.passed.bytes.1 more.1)
+    more_bytes : (now : MemberReader S A State) (reader : LineReader S) → Going old now → (bytes : List ℕ) × Hands device now.below bytes reader → (bytes : List ℕ) × Hands device old.below bytes reader
+    more_bytes now reader g more = (g.passed.bytes.0 ++ more.0, hands_both device old.below now.below reader g.passed.bytes.0 more.0 g.passed.bytes.1 more.1)
 
-    stays_more : (now new : MemberReader S A State) → Going old now → (bytes : List ℕ) × Hands device.left now.below bytes new.below → Follows now new → Stays device.left old new
+    stays_more : (now new : MemberReader S A State) → Going old now → (bytes : List ℕ) × Hands device now.below bytes new.below → Follows now new → Stays device old new
     stays_more now new g more follows = record { bytes = more_bytes now new.below g more; format = follows.format ∙ g.format }
 
     -- the lines consumed and the one given
@@ -382,7 +382,7 @@ module _ {S A State : Type 0} (device : Source S) where
     served = refl;
     was_going = going;
     goes = refl;
-    stays = record { bytes = ([], hands_none device.left old.below); format = refl };
+    stays = record { bytes = ([], hands_none device old.below); format = refl };
     lines = (came_none device old.below).lines;
     near = near_came device old.below old.below (came_none device old.below);
     shrinks = omega arith;
@@ -390,7 +390,7 @@ module _ {S A State : Type 0} (device : Source S) where
 
 -- Lemmas on failed reads that are reported for the first time.
 
-module _ (T : Type 0) {S : Type 0} (IsRead : S → Option ℕ → S → Type 0) (before : Option FaultValue) (old new : LineReader S) (fault : Fault) where
+module _ (T : Type 0) {S : Type 0} (IsRead : S → Option (List ℕ) → S → Type 0) (before : Option FaultValue) (old new : LineReader S) (fault : Fault) where
   module _ (read : HasRead IsRead old new) where
     -- a line at fault tells no failed read
     pub line_is_own : (place : Place) (kind : Kind) → is_of_line kind ≡ true → fault_value fault ≡ fault_at_line place.input place.line kind → TellsOwnFailure {T = T} IsRead before old (Err fault) new

@@ -1,12 +1,13 @@
 -- Lemmas on making a line buffered, and on the step to the next line by it.
-use Rattle.bt_lines.proofs.Std.{IsErrAnd, err_from_is_err_and, common_steps, rules, ◌≡◌, ℕ, ◌-◌, ◌<◌, Bool, true, false, List, [], ◌++◌, length, take, Option, Result, None, Some, Ok, Err, sym, ap, ◌∙◌, subst, append_assoc, length-append, arith, IfSome, ◌+◌, ◌≤◌, ◌∷◌, drop, eqb, take-add, take-append-drop, take_at, drop_at, length-take-le, length-drop, All-append, replicate, get_or, get_or-append_right, get_or-append_seam, get_or-replicate, get_or_append_left, length-replicate, drop_more, take-append-le, take-take}
+use Rattle.bt_lines.proofs.Std.{append-nil, refl, IsErrAnd, err_from_is_err_and, common_steps, rules, ◌≡◌, ℕ, ◌-◌, ◌<◌, Bool, true, false, List, [], ◌++◌, length, take, Option, Result, None, Some, Ok, Err, sym, ap, ◌∙◌, subst, append_assoc, length-append, arith, IfSome, ◌+◌, ◌≤◌, ◌∷◌, drop, eqb, take-add, take-append-drop, take_at, drop_at, length-take-le, length-drop, All-append, replicate, get_or, get_or-append_right, get_or-append_seam, get_or-replicate, get_or_append_left, length-replicate, drop_more, take-append-le, take-take}
 use Rattle.bt_lines.specs.declared.device.Source.{Ghosts as Source}
-use Rattle.bt_lines.proofs.lemmas.reader.block.ReadsLemmas.{has_read_then}
+use Rattle.bt_lines.proofs.lemmas.reader.block.ReadsLemmas.{hands_both, hands_none, hands_still, has_read_then, no_fault, some_is}
 use Rattle.bt_lines.proofs.lemmas.reader.lines.BufferedLemmas.{CutsFirst}
 use Rattle.bt_lines.proofs.lemmas.reader.lines.StepLemmas.{none_told}
 use Rattle.bt_lines.proofs.lemmas.reader.lines.TextLemmas.{line_feeds-append}
 use Rattle.bt_lines.specs.calls.Columns.{IsBefore, IsFirstOf, Lacks}
 use Rattle.bt_lines.specs.calls.Line.{line_seen}
+use Rattle.bt_lines.specs.calls.Names.{fault_value}
 use Rattle.bt_lines.specs.model.Lines.{TextLine}
 use Rattle.bt_lines.specs.inside.ReadBuffer.{complete}
 use Rattle.bt_lines.specs.calls.Reader.{DropsLines, FillsItsRoom, FillsLines, GivesLine, HasRead, MakesLine, NextLine, TellsOwnFailure, buffered_bytes, bytes_left, bytes_taken, end_told, fault_kept, feeds_taken, has_ended, held, input_of, lines_given, lines_left, source_of}
@@ -27,21 +28,58 @@ module _ {S : Type 0} (device : Source S) where
   -- a line is buffered already
   pub fills_ready : (reader : LineReader S) → (length (complete reader.buffer) ≡ 0 → ⊥) → FillsLines device reader (Ok true) reader
   unfolding buffered_bytes fault_kept has_ended bytes_taken
-  fills_ready reader some = search rules
+  fills_ready reader some = record {
+    answers = record {
+      some = grind arith;
+      bytes = ([], hands_none device reader, sym (append-nil (held reader)));
+      same = same_lines (lines_left device.left reader);
+      counted = refl;
+      ready = λ h. refl;
+      served = refl;
+      was_going = grind arith;
+      goes = grind arith;
+      within = grind arith;
+    };
+    unread = λ h. refl;
+    kept = λ h. h;
+  }
+
+  -- a fault is returned again
+  pub fails_again : (reader : LineReader S) (fault : Fault) → fault_kept reader ≡ Some (fault_value fault) → FillsLines device reader (Err fault) reader
+  unfolding fault_kept has_ended
+  fails_again reader fault is =
+      let never : fault_kept reader ≡ None → ⊥ = λ none. (let apart : None ≡ Some (fault_value fault) = sym none ∙ is in cc) in
+      record {
+        answers = record {
+          kept = is;
+          bytes = ([], hands_none device reader);
+          counted = refl;
+          again = λ before e. (some_is (fault_value fault) before (sym is ∙ e), refl);
+          was_going = grind arith;
+          before_end = λ none. absurd (never none);
+          no_line = λ none. absurd (never none);
+          first = λ none. absurd (never none);
+          cut_off = λ none e. absurd (never none);
+          near = λ none. absurd (never none);
+          served = λ e. refl;
+        };
+        unread = λ h. refl;
+        kept = λ h. h;
+      }
 
   -- after the last line comes the end
   pub fills_after_last : (old new : LineReader S) → complete old.buffer ≡ [] → old.state ≡ LastLine → new.source ≡ old.source → new.buffer ≡ old.buffer → new.taken ≡ old.taken → new.lines ≡ old.lines
       → new.input ≡ old.input → new.state ≡ Ended → FillsLines device old (Ok false) new
   unfolding source_of input_of lines_given bytes_taken held fault_kept has_ended end_told feeds_taken buffered_bytes
-  fills_after_last old new none was same_source same_buffer same_taken same_lines same_input ended = grind (arith, none_left_told)
+  fills_after_last old new none was same_source same_buffer same_taken same_lines same_input ended = grind (arith, none_left_told, (hands_still device old new same_source), no_fault)
 
   pub fills_again : (old : LineReader S) → complete old.buffer ≡ [] → old.state ≡ Ended → FillsLines device old (Ok false) old
   unfolding source_of lines_given bytes_taken held fault_kept has_ended end_told buffered_bytes
-  fills_again old none was = grind (arith, none_left_told)
+  fills_again old none was = grind (arith, none_left_told, (hands_none device old))
 
   -- a line that was made buffered, and then given
   gives_after : (old mid new : LineReader S) (line : TextLine) → MakesLine device old mid → GivesLine device mid line new → GivesLine device old line new
-  gives_after old mid new line made gives = grind (arith, append_assoc, line_feeds-append, length-append)
+  gives_after old mid new line made gives = grind (arith, append_assoc, line_feeds-append, length-append, (hands_both device old mid new made.bytes.0 gives.bytes.0))
 
   -- a call of `next` that met no line
   pub ends_by : (old new : LineReader S) (answer : Result Bool Fault) → answer ≡ Ok false → FillsLines device old answer new → TellsOwnFailure device.is_read old answer new → NextLine device old (Ok None) new

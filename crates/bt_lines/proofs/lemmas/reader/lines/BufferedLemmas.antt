@@ -2,6 +2,7 @@
 use Rattle.bt_lines.proofs.Std.{common_steps, ◌≡◌, ◌⊎◌, ℕ, suc, ◌+◌, ◌-◌, ◌<◌, ◌≤◌, Bool, true, false, cond, List, [], ◌∷◌, ◌++◌, length, take, drop, Option, refl, sym, ap, ◌∙◌, subst, append_assoc, append-nil, length-append, add-zero, arith, nat_lt, ends_with_byte, strip_last, take-append_seam, length-take, Consumes-nil, Consumes, ◌^◌, drop-drop, length-drop, take-append-drop, take_all, take-add, drop_all, drop_more}
 use Rattle.bt_lines.specs.declared.device.Source.{Ghosts as Source}
 use Rattle.bt_lines.proofs.lemmas.reader.block.BufferLemmas.{unread_fits, fed_none, fed_clear, fed_drop, fed_after, fed_push}
+use Rattle.bt_lines.proofs.lemmas.reader.block.ReadsLemmas.{reads_nothing}
 use Rattle.bt_lines.proofs.lemmas.reader.lines.StepLemmas.{some_state, goes, told_last, gives_fed, sound_fed, gives_last, sound_last}
 use Rattle.bt_lines.proofs.lemmas.reader.lines.TextLemmas.{line_feeds-fed, lines_from-last, lines_from-nil, strip_last-other, whole_lines_from-fed, whole_lines_from-last}
 use Rattle.bt_lines.specs.calls.Columns.{IsBefore}
@@ -93,8 +94,8 @@ module _ {S : Type 0} (device : Source S) (old new : LineReader S) {line : Shown
       let short : length (held new) ≤ block_size = rw now.holds near in
       let none : Consumes (device.left old.source) (device.left new.source) [] = rw same_source (Consumes-nil (device.left old.source)) in
       cuts_as device old new given_line _ is_line
-      (gives_fed device new [] cut.piece was now same next none (same_taken ∙ sym (add-zero old.taken)) holds cut.clear short (λ h. same_source) (ap device.has_failed same_source))
-      (sound_fed device new [] cut.piece was now same next none (same_taken ∙ sym (add-zero old.taken)) holds cut.clear short (λ h. same_source) (ap device.has_failed same_source))
+      (gives_fed device new [] cut.piece was now same next none (reads_nothing device.is_read old.source new.source same_source) (same_taken ∙ sym (add-zero old.taken)) holds cut.clear short (λ h. same_source) (ap device.has_failed same_source))
+      (sound_fed device new [] cut.piece was now same next none (reads_nothing device.is_read old.source new.source same_source) (same_taken ∙ sym (add-zero old.taken)) holds cut.clear short (λ h. same_source) (ap device.has_failed same_source))
 
   cut_last : old.state ≡ LastLine → CutsFirst device old given_line new
   unfolding source_of input_of lines_given held has_ended

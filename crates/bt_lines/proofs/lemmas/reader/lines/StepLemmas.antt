@@ -1,5 +1,5 @@
 -- Lemmas on a step of the reader of lines.
-use Rattle.bt_lines.proofs.Std.{common_steps, rules, ◌≡◌, ℕ, suc, ◌+◌, ◌-◌, ◌^◌, ◌<◌, ◌≤◌, ◌⊎◌, inl, inr, true, false, cond, List, [], ◌∷◌, ◌++◌, length, Option, None, Some, Ok, Err, take, refl, sym, ap, ◌∙◌, subst, append_assoc, append-nil, length-append, arith, option_map, is_some, IfSome, take_all, false≢true, take-append-add, take-append_seam, Consumes, IsAtEnd, ends_with_byte, strip_last}
+use Rattle.bt_lines.proofs.Std.{common_steps, rules, ◌≡◌, ℕ, suc, ◌+◌, ◌-◌, ◌^◌, ◌<◌, ◌≤◌, ◌⊎◌, inl, inr, true, false, cond, List, [], ◌∷◌, ◌++◌, length, Option, None, Some, Ok, Err, take, refl, sym, ap, ◌∙◌, subst, append_assoc, append-nil, length-append, arith, option_map, is_some, IfSome, IsSome, take_all, false≢true, take-append-add, take-append_seam, Consumes, IsAtEnd, ends_with_byte, strip_last}
 use Rattle.bt_lines.specs.declared.device.Source.{Ghosts as Source}
 use Rattle.bt_lines.proofs.lemmas.reader.block.BufferLemmas.{unread_fits, one_line}
 use Rattle.bt_lines.proofs.lemmas.reader.lines.TextLemmas.{lines_from-fed, lines_from-last, lines_from-nil, spelled-fed, line_feeds-append, line_feeds-none, line_feeds-fed, bytes_behind_first}
@@ -8,11 +8,13 @@ use Rattle.bt_lines.specs.model.Lines.{TextLine, fed_line, last_line, lines_from
 use Rattle.bt_lines.specs.model.Fault.{read_failed}
 use Rattle.bt_lines.specs.calls.Faults.{no_memory}
 use Rattle.bt_lines.specs.inside.Shape.{held_at, IsLast}
-use Rattle.bt_lines.specs.inside.Spill.{Buffers, closed}
+use Rattle.bt_lines.proofs.lemmas.reader.block.ReadsLemmas.{hands_still, no_fault}
+use Rattle.bt_lines.specs.calls.Device.{FailsAfter, ReadsOn}
+use Rattle.bt_lines.specs.inside.Spill.{Buffers, closed, uncounted}
 use Rattle.bt_lines.specs.calls.Output.{block_size}
 use Rattle.bt_lines.specs.calls.Line.{NoLineFeed, line_feeds}
 use Rattle.bt_lines.specs.calls.Names.{fault_value}
-use Rattle.bt_lines.specs.calls.Reader.{FillsLines, IsKept, IsSound, buffered_bytes, Hands, IsNear, FailsToRead, end_told, GivesLine, source_of, input_of, lines_given, bytes_taken, held, fault_kept, has_ended, bytes_left, feeds_taken}
+use Rattle.bt_lines.specs.calls.Reader.{FillsLines, IsKept, IsSound, buffered_bytes, Hands, HasRead, IsNear, FailsToRead, end_told, GivesLine, source_of, input_of, lines_given, bytes_taken, held, fault_kept, has_ended, bytes_left, feeds_taken}
 use Rattle.bt_lines.specs.declared.fault.Fault.{Fault}
 use Rattle.bt_lines.specs.declared.fault.Input.{Input}
 use Rattle.bt_lines.specs.declared.reader.spill.Stop.{Stop}
@@ -59,7 +61,7 @@ none_told n a held e = grind (arith, lines_from-nil)
 -- ---- a line with a line feed
 
 module _ {S : Type 0} (device : Source S) {old : LineReader S} (new : LineReader S) (bytes piece : List ℕ) (was : Goes old) (is : Goes new)
-    (same : input_of new ≡ input_of old) (more : lines_given new ≡ suc (lines_given old)) (consumed : Consumes (device.left (source_of old)) (device.left (source_of new)) bytes)
+    (same : input_of new ≡ input_of old) (more : lines_given new ≡ suc (lines_given old)) (consumed : Consumes (device.left (source_of old)) (device.left (source_of new)) bytes) (reads : ReadsOn device.is_read (source_of old) bytes (source_of new))
     (counted : new.taken ≡ old.taken + length bytes) (joined : held old ++ bytes ≡ piece ++ 10 ∷ held new) (clear : NoLineFeed piece)
     (near : length (held new) ≤ block_size) (ready : 0 < line_feeds (held old) → source_of new ≡ source_of old) (served : device.has_failed (source_of new) ≡ device.has_failed (source_of old)) where
   fed_size : length (held old) + length bytes ≡ length piece + suc (length (held new))
@@ -72,9 +74,9 @@ module _ {S : Type 0} (device : Source S) {old : LineReader S} (new : LineReader
   unfolding lines_given
   fed_below = omega (arith, new.a_byte_each, new.counted)
 
-  fed_hands : Hands device.left old bytes new
+  fed_hands : Hands device old bytes new
   unfolding feeds_taken
-  fed_hands = grind (arith, line_feeds-append, line_feeds-fed)
+  fed_hands = grind (arith, line_feeds-append, line_feeds-fed, reads, no_fault)
 
   fed_held : held old ++ bytes ≡ spelled (fed_line (suc (lines_given old)) piece) ++ held new
   fed_held = grind (arith, (spelled-fed (suc (lines_given old)) piece), (append_assoc piece (10 ∷ []) (held new)))
@@ -97,6 +99,9 @@ module _ {S : Type 0} (device : Source S) {old : LineReader S} (new : LineReader
   one : last_line (suc (lines_given old)) piece ≡ line ∷ []
   one = grind arith
 
+  last_hands : Hands device old [] new
+  last_hands = hands_still device old new same_source (is.taken ∙ same_taken ∙ sym was.taken) same (λ e. absurd (false≢true (sym e ∙ is.is_told))) (λ e. is.is_told) (λ some. absurd (no_fault (fault_kept old) was.good some))
+
   last_held : held old ++ [] ≡ spelled line ++ held new
   last_held = grind (arith, common_steps)
 
@@ -106,7 +111,7 @@ module _ {S : Type 0} (device : Source S) {old : LineReader S} (new : LineReader
 
   pub gives_last : GivesLine device old line new
   unfolding bytes_left
-  gives_last = grind (arith, lines_from-last, last_held, last_below)
+  gives_last = grind (arith, lines_from-last, last_hands, last_held, last_below)
 
   pub sound_last : IsKept device old → IsSound device new
   sound_last h = grind arith
@@ -114,13 +119,13 @@ module _ {S : Type 0} (device : Source S) {old : LineReader S} (new : LineReader
 -- ---- a line that was made buffered
 
 module _ {S : Type 0} (device : Source S) (old new : LineReader S) (bytes : List ℕ) (was : Goes old)
-    (same : input_of new ≡ input_of old) (same_lines : lines_given new ≡ lines_given old) (consumed : Consumes (device.left (source_of old)) (device.left (source_of new)) bytes)
+    (same : input_of new ≡ input_of old) (same_lines : lines_given new ≡ lines_given old) (consumed : Consumes (device.left (source_of old)) (device.left (source_of new)) bytes) (reads : ReadsOn device.is_read (source_of old) bytes (source_of new))
     (taken : bytes_taken new ≡ bytes_taken old + length bytes) (holds : held new ≡ held old ++ bytes) (good : fault_kept new ≡ None)
     (ready : 0 < line_feeds (held old) → source_of new ≡ source_of old) (served : device.has_failed (source_of new) ≡ device.has_failed (source_of old))
     (some : 0 < length (buffered_bytes new)) (within : bytes_taken new < 2 ^ 63) (empty : buffered_bytes old ≡ []) where
-  made_hands : Hands device.left old bytes new
+  made_hands : Hands device old bytes new
   unfolding feeds_taken
-  made_hands = grind (arith, line_feeds-append)
+  made_hands = grind (arith, line_feeds-append, reads, no_fault)
 
   pub makes_line : end_told new ≡ false → FillsLines device old (Ok true) new
   unfolding bytes_left
@@ -133,12 +138,12 @@ module _ {S : Type 0} (device : Source S) (old new : LineReader S) (bytes : List
 -- ---- the end of the text
 
 module _ {S : Type 0} (device : Source S) (old new : LineReader S) (bytes : List ℕ) (was : Goes old) (is : IsTold new)
-    (same : input_of new ≡ input_of old) (same_lines : lines_given new ≡ lines_given old) (consumed : Consumes (device.left (source_of old)) (device.left (source_of new)) bytes)
+    (same : input_of new ≡ input_of old) (same_lines : lines_given new ≡ lines_given old) (consumed : Consumes (device.left (source_of old)) (device.left (source_of new)) bytes) (reads : ReadsOn device.is_read (source_of old) bytes (source_of new))
     (counted : new.taken ≡ old.taken + length bytes) (nothing : held old ++ bytes ≡ []) (gone : held new ≡ [])
     (served : device.has_failed (source_of new) ≡ device.has_failed (source_of old)) (told : device.end_told (source_of new) ≡ true) (none : IsAtEnd (device.left (source_of new))) (ended : has_ended new ≡ true) (empty : buffered_bytes old ≡ []) where
   pub fills_end : FillsLines device old (Ok false) new
   unfolding bytes_left
-  fills_end = grind (arith, append-nil, lines_from-nil)
+  fills_end = grind (arith, append-nil, lines_from-nil, reads, no_fault)
 
 -- ---- a line that couldn't be given
 
@@ -157,6 +162,7 @@ pub record CutLine {S : Type 0} (device : Source S) (old new : LineReader S) (by
   pub same : input_of new ≡ input_of old
   pub same_lines : lines_given new ≡ lines_given old
   pub consumed : Consumes (device.left (source_of old)) (device.left (source_of new)) bytes
+  pub reads : ReadsOn device.is_read (source_of old) bytes (source_of new) ⊎ FailsAfter device.is_read (source_of old) bytes (source_of new)
   pub counted : bytes_taken new ≡ bytes_taken old + length bytes
   pub joined : held old ++ bytes ≡ text ++ behind
   pub clear : NoLineFeed text
@@ -167,9 +173,14 @@ pub record CutLine {S : Type 0} (device : Source S) (old new : LineReader S) (by
   pub empty : buffered_bytes old ≡ []
 
 module _ {S : Type 0} {device : Source S} {old new : LineReader S} {bytes text behind : List ℕ} {fault : Fault} (line : CutLine device old new bytes text behind fault) where
-  cut_hands : Hands device.left old bytes new
+  cut_reads : ReadsOn device.is_read (source_of old) bytes (source_of new) ⊎ FailsAfter device.is_read (source_of old) bytes (source_of new)
+      → ReadsOn device.is_read (source_of old) bytes (source_of new) ⊎ (FailsAfter device.is_read (source_of old) bytes (source_of new) × IsSome (fault_kept new))
+  cut_reads (inl on) = inl on
+  cut_reads (inr fails) = inr (fails, rw line.kept refl)
+
+  cut_hands : Hands device old bytes new
   unfolding feeds_taken
-  cut_hands = grind arith
+  cut_hands = grind (arith, (cut_reads line.reads), no_fault)
 
   cut_near : IsNear device.left old new
   unfolding bytes_left
@@ -205,15 +216,20 @@ module _ {S : Type 0} {device : Source S} (old new : LineReader S) (going : old.
 
   pub line_step : stop ≡ StopLineFeed → new.state ≡ Reading → FillsLines device old (Ok true) new
   unfolding source_of input_of lines_given buffered_bytes
-  line_step is state = grind (arith, goes, makes_line)
+  line_step is state = let b = rw is at buffers in grind (arith, goes, makes_line, b.handed)
 
   pub last_step : stop ≡ StopEnd → (length (complete new.buffer) ≡ 0 → ⊥) → new.state ≡ LastLine → FillsLines device old (Ok true) new
   unfolding source_of input_of lines_given held buffered_bytes end_told
-  last_step is some state = grind (arith, goes, told_last, held_closed, makes_last)
+  last_step is some state = let b = rw is at buffers in grind (arith, goes, told_last, held_closed, makes_last, b.handed)
 
   pub end_step : stop ≡ StopEnd → length (complete new.buffer) ≡ 0 → new.state ≡ Ended → FillsLines device old (Ok false) new
   unfolding source_of input_of lines_given held has_ended
-  end_step is empty state = grind (arith, goes, fills_end, told_ended, nothing_buffered)
+  end_step is empty state = let b = rw is at buffers in grind (arith, goes, fills_end, told_ended, nothing_buffered, b.handed)
+
+  -- the reads of the step, if all succeeded
+  pub read_step : ReadsOn device.is_read old.source buffers.bytes new.source → bytes_taken new ≡ new.taken + uncounted stop → HasRead device.is_read old new
+  unfolding source_of
+  read_step reads is = rw (goes old going).taken (record { bytes = buffers.bytes; served = reads; counted = is ∙ buffers.counted })
 
   no_feeds : (stop ≡ StopLineFeed → ⊥) → line_feeds (held old) ≡ 0
   no_feeds other = rw old_holds (grind arith)
@@ -243,6 +259,7 @@ module _ {S : Type 0} {device : Source S} (old new : LineReader S) (going : old.
           same = same;
           same_lines = same_lines;
           consumed = b.consumed;
+          reads = inr b.handed;
           counted = rw (state, was.taken) counted;
           joined = sym (append-nil (held old ++ b.bytes));
           clear = clear;
@@ -272,6 +289,7 @@ module _ {S : Type 0} {device : Source S} (old new : LineReader S) (going : old.
           same = same;
           same_lines = same_lines;
           consumed = b.consumed;
+          reads = inl b.handed;
           counted = rw (state, was.taken) counted;
           joined = joined;
           clear = cut.2;
@@ -300,6 +318,7 @@ module _ {S : Type 0} {device : Source S} (old new : LineReader S) (going : old.
           same = same;
           same_lines = same_lines;
           consumed = b.consumed;
+          reads = inl b.handed;
           counted = rw (state, was.taken) (omega (arith, b.counted));
           joined = joined;
           clear = cut.1;

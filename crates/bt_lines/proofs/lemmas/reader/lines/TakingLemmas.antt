@@ -1,7 +1,9 @@
 -- Lemmas on lines that are taken of those that are buffered.
-use Rattle.bt_lines.proofs.Std.{common_steps, ◌≡◌, ◌⊎◌, inl, inr, ℕ, suc, ◌+◌, ◌-◌, ◌^◌, ◌<◌, ◌≤◌, Bool, true, false, nat_eq, List, [], ◌∷◌, ◌++◌, length, take, drop, refl, sym, ap, ◌∙◌, Option, None, Some, append_assoc, length-append, arith, IfSome, option_map, drop_all, drop_at, take_all, take_at, length-take, take-append-drop, Consumes-trans}
+use Rattle.bt_lines.proofs.Std.{common_steps, ◌≡◌, ◌⊎◌, inl, inr, ℕ, suc, ◌+◌, ◌-◌, ◌^◌, ◌<◌, ◌≤◌, Bool, true, false, nat_eq, List, [], ◌∷◌, ◌++◌, length, take, drop, refl, sym, ap, ◌∙◌, Option, None, Some, append_assoc, length-append, arith, IfSome, option_map, drop_all, drop_at, take_all, take_at, length-take, take-append-drop, subst, IsSome}
 use Rattle.bt_lines.specs.declared.device.Source.{Ghosts as Source}
 use Rattle.bt_lines.proofs.lemmas.reader.block.BufferLemmas.{fed_clear, fed_drop, fed_last, fed_none, unread_fits}
+use Rattle.bt_lines.proofs.lemmas.reader.block.ReadsLemmas.{hands_still}
+use Rattle.bt_lines.specs.model.Fault.{FaultValue}
 use Rattle.bt_lines.proofs.lemmas.reader.lines.BufferedLemmas.{are_fed, lines_fit}
 use Rattle.bt_lines.proofs.lemmas.reader.lines.TextLemmas.{lines_from-fed, lines_from-last, lines_from-nil, by_lines, bytes_in-drop, bytes_in-lines, lines_are_numbered, whole_lines_from-last, line_feeds-append, line_feeds-fed, whole_count, whole_front}
 use Rattle.bt_lines.specs.calls.Reader.{buffered_lines, DropsLines, Hands, IsKept, IsPrefix, TakesLines, bytes_taken, buffered_in, fault_kept, feeds_taken, has_ended, input_of, buffered_bytes, bytes_left, is_open, end_told, held, left_at, lines_given, lines_left, source_of, IsSound}
@@ -200,8 +202,8 @@ module _ {S : Type 0} (device : Source S) (old new : LineReader S) (n : ℕ) (ta
   kept_taken h = record { end = λ e. rw sources (h.end (sym told_taken ∙ e)); within = λ e. rw same_bytes (h.within (sym fault_taken ∙ e)) }
 
   -- nothing is handed over
-  hands_taken : Hands device.left old [] new
-  hands_taken = grind (arith, sources, same_bytes, inputs, feeds_kept, told_taken)
+  hands_taken : Hands device old [] new
+  hands_taken = hands_still device old new sources same_bytes inputs feeds_kept (λ e. told_taken ∙ e) (λ some. subst (λ (o : Option FaultValue). IsSome o) (sym fault_taken) some)
 
   -- and so much less is held
   held_taken : length (held new) + line_feeds (take n (complete old.buffer)) ≤ length (held old)
@@ -306,17 +308,8 @@ some_buffered reader some none = grind (arith, none_buffered, are_fed)
 
 -- Lemmas on readers of lines, for callers too.
 
--- a call that took nothing
-pub hands_none : {S : Type 0} (left : S → Option (List ℕ)) (reader : LineReader S) → Hands left reader [] reader
-hands_none left reader = grind arith
-
 pub not_told : (a b : Bool) → (a ≡ true → b ≡ true) → b ≡ false → a ≡ false
 not_told a b stays e = grind arith
-
--- one call after another
-pub hands_both : {S : Type 0} (left : S → Option (List ℕ)) (old mid new : LineReader S) (first second : List ℕ)
-    → Hands left old first mid → Hands left mid second new → Hands left old (first ++ second) new
-hands_both left old mid new first second p q = grind (arith, Consumes-trans, length-append, line_feeds-append)
 
 -- of known bytes, those of the lines that are left are left at the source, except at most a block
 pub sound_near : {S : Type 0} (device : Source S) (reader : LineReader S) → IsSound device reader → fault_kept reader ≡ None

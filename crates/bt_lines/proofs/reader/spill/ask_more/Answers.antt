@@ -1,17 +1,18 @@
-use Rattle.bt_lines.proofs.Std.{Some, refl, sym, subst, add-zero, arith}
-use Rattle.bt_lines.proofs.lemmas.reader.block.ReadsLemmas.{counts_one}
+use Rattle.bt_lines.proofs.Std.{◌≡◌, ◌∙◌, ◌+◌, ◌++◌, [], ap, append-nil, length, nil_from_length, sym}
+use Rattle.bt_lines.specs.inside.ReadBuffer.{unread}
+use Rattle.bt_lines.proofs.lemmas.reader.block.ReadsLemmas.{reads_one}
 use Rattle.bt_lines.proofs.reader.spill.ask_more.Goals as goal
 
-pub returns-in-Ok-eq0-clause-counted : goal.returns-in-Ok-eq0-clause-counted
-returns-in-Ok-eq0-clause-counted g c =
-    let none = c.in-Ok-eq0.field-0-test in
-    counts_one g.S.Source.is_read _ _ _ _ 0 (subst (λ n. g.S.Source.is_read c.args.source.now (Some n) c.read_more.new.source) none c.in-Ok-eq0.ensures.counted) (sym (add-zero c.args.taken.now))
-
-pub returns-in-Ok-clause-counted : goal.returns-in-Ok-clause-counted
-returns-in-Ok-clause-counted g c =
-    let count = c.in-Ok._byte in
-    counts_one g.S.Source.is_read _ _ _ _ count c.in-Ok.ensures.counted
-    (omega (arith, c.in-Ok.ensures.bytes.0, c.max.ensures, c.if-room-eq0.true, c.in-Ok._byte-test.1))
-
-pub returns-in-Ok-2-clause-counted : goal.returns-in-Ok-2-clause-counted
-returns-in-Ok-2-clause-counted g c = counts_one g.S.Source.is_read _ _ _ _ c.in-Ok._byte c.in-Ok.ensures.counted refl
+pub returns-in-Ok-eq0-clause-asks : goal.returns-in-Ok-eq0-clause-asks
+returns-in-Ok-eq0-clause-asks g c =
+    let got = c.in-Ok-eq0.ensures.bytes.1 in
+    let end = c.in-Ok-eq0.ensures.end c.in-Ok-eq0.field-0-test in
+    let none : got.0 ≡ [] = nil_from_length got.0 (sym got.1 ∙ c.in-Ok-eq0.field-0-test) in
+    record {
+      bytes = got.0;
+      consumed = got.2;
+      handed = reads_one g.S.Source.is_read c.args.source.now c.read_more.new.source got.0 got.4;
+      counted = ap (λ l. c.args.taken.now + length l) (sym none);
+      within = c.requires.counted;
+      came = (none, got.3 ∙ ap (λ l. unread c.args.buffer.now ++ l) none ∙ append-nil (unread c.args.buffer.now), c.in-Ok-eq0.ensures.served, end.0, end.1);
+    }

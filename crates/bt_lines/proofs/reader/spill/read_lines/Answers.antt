@@ -1,10 +1,9 @@
 use Rattle.bt_lines.proofs.Std.{refl}
-use Rattle.bt_lines.proofs.lemmas.reader.block.BufferLemmas.{is_full, unread_fits, none_yet, not_full, source_failed, text_ended, text_too_long, then_counted, then_long}
-use Rattle.bt_lines.proofs.lemmas.reader.block.ReadsLemmas.{counts_none, fails_then}
+use Rattle.bt_lines.proofs.lemmas.reader.block.BufferLemmas.{is_full, unread_fits, none_yet, not_full, source_failed, text_ended, text_too_long, then_long}
 use Rattle.bt_lines.proofs.reader.spill.read_lines.Goals as goal
 
 pub loop-buffer-init : goal.loop-buffer-init
-loop-buffer-init g c = (none_yet _ _ _ _ c.requires.counted, counts_none g.S.Source.is_read _ _ _ _ refl refl, c.requires.none, refl)
+loop-buffer-init g c = (none_yet _ _ _ _ c.requires.counted, c.requires.none, refl)
 
 pub read_long-requires-clause-full : goal.read_long-requires-clause-full
 read_long-requires-clause-full g c = is_full _ c.if-is_full.ensures
@@ -31,9 +30,3 @@ pub returns-in-PastBound-clause-buffers : goal.returns-in-PastBound-clause-buffe
 returns-in-PastBound-clause-buffers g c =
     let finds = c.loop-buffer-test.ensures.finds in
     text_too_long _ c.loop-buffer.invariant.0 finds.1 finds.2 _ _ _ _ c.in-PastBound.ensures.asks c.in-PastBound.ensures.none
-
-pub returns-then-is_full-clause-counted : goal.returns-then-is_full-clause-counted
-returns-then-is_full-clause-counted g c = then_counted g.S.Source.is_read _ _ _ _ _ _ _ c.loop-buffer.invariant.1 c.read_long.ensures.counted
-
-pub returns-in-BadRead-clause-counted : goal.returns-in-BadRead-clause-counted
-returns-in-BadRead-clause-counted g c = fails_then g.S.Source.is_read _ _ _ _ _ c.loop-buffer.invariant.1 c.in-BadRead.ensures.counted

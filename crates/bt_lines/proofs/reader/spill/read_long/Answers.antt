@@ -1,6 +1,5 @@
 use Rattle.bt_lines.proofs.Std.{[], ◌∷◌, ◌++◌, ◌∙◌, ap, Ok}
 use Rattle.bt_lines.proofs.lemmas.reader.block.BufferLemmas.{fed_line, one_line, at_feed, at_refusal, feed_fed, feed_one, no_feed, none_came, none_refused, read_failed, past_bound, some_full}
-use Rattle.bt_lines.proofs.lemmas.reader.block.ReadsLemmas.{fails_then}
 use Rattle.bt_lines.proofs.reader.spill.read_long.Goals as goal
 
 pub returns-in-Err-clause-buffers : goal.returns-in-Err-clause-buffers
@@ -40,6 +39,3 @@ pub returns-in-Ok-clause-buffers : goal.returns-in-Ok-clause-buffers
 returns-in-Ok-clause-buffers g c =
     none_came _ _ _ (some_full _ c.requires.full) c.requires.clear (rw c.begin_spill.ensures.unread at c.reads.invariant.0) _ _ c.spill.ensures.moves (c.in-Ok-false.is ∙ ap Ok c.in-Ok-false.field-0-test) _ _ _ c.in-NoBytes.ensures.asks
     (c.use_spilled-in-Ok.ensures.lines ∙ c.in-Ok.ensures.ended ∙ ap (λ l. l ++ 10 ∷ []) c.in-NoBytes.ensures.spilled) (c.use_spilled-in-Ok.ensures.unread ∙ c.end_spilled.ensures.unread)
-
-pub returns-in-BadRead-clause-counted : goal.returns-in-BadRead-clause-counted
-returns-in-BadRead-clause-counted g c = fails_then g.S.Source.is_read _ _ _ _ _ c.reads.invariant.1 c.in-BadRead.ensures.counted

@@ -109,7 +109,7 @@ module _ {S A State : Type 0} {written : Written A} {Taken : List A → Type 0} 
       (begun.0, ap (λ (h : Handed). (report h).output) holds.is ∙ begun.1)
 
   -- how far the input was read
-  near_by : {one : Handed} {before took : List ℕ} → Holds device.left first one → out.put ≡ Some before → out.took ≡ Some took → (bytes : List ℕ) × Hands device.left old.below bytes new.below
+  near_by : {one : Handed} {before took : List ℕ} → Holds device.left first one → out.put ≡ Some before → out.took ≡ Some took → (bytes : List ℕ) × Hands device old.below bytes new.below
       → {past : List (Member A)} → IsReadFor device old past past new → {grown : Output} → TookButBlock out (written.settled (member_items past)) grown
       → (Stopped : Type 0) → (Stopped → PutsLines out (written.settled (member_items past)) grown)
       → ReadsNoFurther (λ n. IsWithin (device.end_told last) one.text n → ⊤) (λ lines. (good format First lines).fault) (members_settle written format) one.text (device.left last) before grown.took (grown.has_failed ≡ true) Stopped grown.put
@@ -145,7 +145,7 @@ module _ {S A State : Type 0} {written : Written A} {Taken : List A → Type 0} 
 
     -- the report, by what the fault of the input says of it
     reported_by : (past : List (Member A)) (handed : Handed) (before : List ℕ) → Came device first last (Some fault) handed → out.put ≡ Some before
-        → Some fault ≢ Some write_failed → Some fault ≢ Some no_memory → (bytes : List ℕ) × Hands device.left old.below bytes new.below → Cause past → IsReported (report handed) before (Some fault) grown
+        → Some fault ≢ Some write_failed → Some fault ≢ Some no_memory → (bytes : List ℕ) × Hands device old.below bytes new.below → Cause past → IsReported (report handed) before (Some fault) grown
     reported_by past handed before came put write memory hands (inl taking) =
         elim taking.cause [
           | inl behind ↦ grind (arith, (report_of handed past (Some fault) (says_fault device old driven.starts new driven.ended kinds past fault handed came hands behind)))

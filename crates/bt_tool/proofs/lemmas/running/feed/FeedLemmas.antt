@@ -101,7 +101,7 @@ module _ {S A State : Type 0} {settled : List A → List ℕ} {device : Source S
 
   module _ {Kinds : Kind → Type 0} {Sorted : List A → Type 0} where
     -- these members were taken when the reading stops
-    taken : (bytes : List ℕ) × Hands device.left now.below bytes new.below → Sorted (member_items past) → IsReadFor device old past past new → Took settled Kinds Sorted device old out past new grown
+    taken : (bytes : List ℕ) × Hands device now.below bytes new.below → Sorted (member_items past) → IsReadFor device old past past new → Took settled Kinds Sorted device old out past new grown
     taken hands sorted read = grind (arith, (bytes_more device old past now g.passes new hands), (took_lines out grown (settled (member_items past)) g.put))
 
     -- the reading stops: at the end of the input

@@ -15,7 +15,7 @@ use Rattle.bt_tool.specs.calls.Run.{IsFaultButWrite, IsOfInput, IsPutTo, IsRepor
 use Rattle.bt_tool.specs.declared.planning.plan_type.Command.{Command}
 use Rattle.bt_lines.specs.calls.Reader.{CutsOff, Hands, bytes_taken, end_told}
 use Rattle.bt_lines.specs.declared.reader.line_reader.LineReader.{LineReader}
-use Rattle.bt_lines.proofs.lemmas.reader.lines.TakingLemmas.{hands_both}
+use Rattle.bt_lines.proofs.lemmas.reader.block.ReadsLemmas.{hands_both}
 use Rattle.bt_lines.proofs.lemmas.reader.lines.TextLemmas.{line_feeds-append}
 use Rattle.bt_bed.specs.model.Good.{Good, Member}
 use Rattle.bt_bed.proofs.lemmas.read.good.ReadingLemmas.{near_pass, pass_more}
@@ -126,9 +126,9 @@ feeds_below : (bound : ℕ) (front back : List ℕ) → length front ≤ bound
 feeds_below bound front back h = grind (arith, (take-append-add front back (bound - length front)), (line_feeds-append front (take (bound - length front) back)))
 
 -- the piece that was cut off, in two calls
-pub cuts_both : {S : Type 0} (left : S → Option (List ℕ)) (old now new : LineReader S) (first : List ℕ) → Hands left old first now
-    → end_told now ≡ false → bytes_taken now < 2 ^ 63 → CutsOff left now new → CutsOff left old new
-cuts_both left old now new first hands told within cut = grind (arith, (feeds_below (2 ^ 63 - 1 - bytes_taken old) first cut.bytes (omega arith)), (hands_both left old now new first cut.bytes hands cut.hands))
+pub cuts_both : {S : Type 0} (device : Source S) (old now new : LineReader S) (first : List ℕ) → Hands device old first now
+    → end_told now ≡ false → bytes_taken now < 2 ^ 63 → CutsOff device now new → CutsOff device old new
+cuts_both device old now new first hands told within cut = grind (arith, (feeds_below (2 ^ 63 - 1 - bytes_taken old) first cut.bytes (omega arith)), (hands_both device old now new first cut.bytes hands cut.hands))
 
 pub up_to : {A : Type 0} (less more : ℕ) (past : List (Member A)) → less ≤ more → All (λ m. m.line ≤ less) past → All (λ m. m.line ≤ more) past
 up_to less more past h up k d i = omega (arith, up k d i)

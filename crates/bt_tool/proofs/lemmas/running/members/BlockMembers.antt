@@ -19,7 +19,8 @@ use Rattle.bt_bed.specs.declared.read.blocks.Blocks.{Blocks}
 use Rattle.bt_tool.specs.inside.Feed.{HasTaken, ComeFirst, IsReadFor, PassesMembers, StopsAfter}
 use Rattle.bt_tool.proofs.lemmas.running.members.MemberLemmas.{IsFilled, IsOver, IsStopped, members_low}
 use Rattle.bt_tool.proofs.lemmas.running.members.PassedLemmas.{consumed_of}
-use Rattle.bt_lines.proofs.lemmas.reader.lines.TakingLemmas.{hands_both, sound_near, is_prefix, near_next}
+use Rattle.bt_lines.proofs.lemmas.reader.block.ReadsLemmas.{hands_both}
+use Rattle.bt_lines.proofs.lemmas.reader.lines.TakingLemmas.{sound_near, is_prefix, near_next}
 use Rattle.bt_lines.specs.model.Fault.{FaultValue}
 use Rattle.bt_lines.specs.model.Lines.{TextLine}
 use Rattle.bt_lines.specs.calls.Line.{AreNumbered}
@@ -138,7 +139,7 @@ module _ {S : Type 0} (device : Source S) (full : Bool) where
         let lines_now = lines_same (lines_left device.left old.below) (lines_left device.left lines) (lines_left device.left new) (lines_given lines) (lines_given new) makes.counted g.lines makes.same in
         record {
           format = g.format;
-          bytes = (g.bytes.0 ++ makes.bytes.0, hands_both device.left old.below lines new g.bytes.0 makes.bytes.0 g.bytes.1 makes.bytes.1);
+          bytes = (g.bytes.0 ++ makes.bytes.0, hands_both device old.below lines new g.bytes.0 makes.bytes.0 g.bytes.1 makes.bytes.1);
           said = g.said;
           state = g.state;
           come = subst (ComeFirst (good_coming device.left old) past) (sym (good_lines reached [] new makes.goes))

@@ -248,20 +248,20 @@ past_bound n h = grind arith
 
 -- a reader that had taken nothing, and what it has become; its source before and after
 module _ {S : Type 0} (device : Source S) {first last : S} (old new : LineReader S) (source : source_of old ≡ first) (ended : source_of new ≡ last) (fresh : bytes_taken old ≡ 0) where
-  pub consumed_by : (bytes : List ℕ) → Hands device.left old bytes new → Consumes (device.left first) (device.left last) bytes
+  pub consumed_by : (bytes : List ℕ) → Hands device old bytes new → Consumes (device.left first) (device.left last) bytes
   consumed_by bytes hands = subst (λ s. Consumes (device.left first) (device.left s) bytes) ended (subst (λ s. Consumes (device.left s) (device.left (source_of new)) bytes) source hands.left_over)
 
   -- the bytes that a run was handed are those that the reader took
-  pub taken_by : (handed : Handed) (reads : Reads device first last handed) (bytes : List ℕ) → Hands device.left old bytes new → (reads.bytes ≡ bytes) × (length reads.bytes ≡ bytes_taken new)
+  pub taken_by : (handed : Handed) (reads : Reads device first last handed) (bytes : List ℕ) → Hands device old bytes new → (reads.bytes ≡ bytes) × (length reads.bytes ≡ bytes_taken new)
   taken_by handed reads bytes hands = grind (arith, append_cancel_right)
 
   -- an input that worked and passed no bound was handed over completely
-  pub handed_all : (handed : Handed) (reads : Reads device first last handed) → (bytes : List ℕ) × Hands device.left old bytes new
+  pub handed_all : (handed : Handed) (reads : Reads device first last handed) → (bytes : List ℕ) × Hands device old bytes new
       → device.has_failed (source_of new) ≡ device.has_failed (source_of old) → bytes_taken new < 2 ^ 63 → handed ≡ whole_text reads.text
   handed_all handed reads hands served within = grind (arith, (below_bound (length reads.bytes) (omega (arith, (taken_by handed reads hands.0 hands.1).1, within))))
 
   -- one that failed or passed the bound was cut off
-  pub handed_part : (handed : Handed) (reads : Reads device first last handed) → (bytes : List ℕ) × Hands device.left old bytes new
+  pub handed_part : (handed : Handed) (reads : Reads device first last handed) → (bytes : List ℕ) × Hands device old bytes new
       → (device.has_failed (source_of new) ≡ true) ⊎ (2 ^ 63 ≤ bytes_taken new)
       → handed ≡ record { text = take (2 ^ 63 - 1) reads.bytes; is_cut = true }
   handed_part handed reads hands (inl fails) = grind arith
@@ -273,7 +273,7 @@ module _ {S : Type 0} (device : Source S) {first last : S} (old new : LineReader
     pub text : take (2 ^ 63 - 1) reads.bytes ++ more ≡ reads.text
     pub given : lines_given new ≡ line_feeds (take (2 ^ 63 - 1) reads.bytes)
 
-  pub cut_text : (handed : Handed) (reads : Reads device first last handed) → feeds_taken old ≡ 0 → CutsOff device.left old new → CutText handed reads
+  pub cut_text : (handed : Handed) (reads : Reads device first last handed) → feeds_taken old ≡ 0 → CutsOff device old new → CutText handed reads
   cut_text handed reads fed cut =
       let parts = consumes_parts (device.left first) (device.left last) reads.bytes reads.text reads.known reads.consumed in
       let front = take (2 ^ 63 - 1) reads.bytes in
@@ -328,7 +328,7 @@ module _ {S A State : Type 0} (device : Source S) {format : Format A State} {inp
   at_whole text e P h = subst P (sym (good_whole format input text)) (some_of (good_coming device.left old) (good format input (text_lines text)) P (good_known text e) h)
 
   -- an input that worked
-  pub came_whole : {fault : Option FaultValue} {handed : Handed} → Came device first last fault handed → (bytes : List ℕ) × Hands device.left old.below bytes new.below
+  pub came_whole : {fault : Option FaultValue} {handed : Handed} → Came device first last fault handed → (bytes : List ℕ) × Hands device old.below bytes new.below
       → device.has_failed (source_of new.below) ≡ device.has_failed (source_of old.below) → bytes_taken new.below < 2 ^ 63
       → (P : Good A → Type 0) → IfSome (good_coming device.left old) P → P (good_handed format input handed)
   came_whole {handed} (inl reads) hands served within P h =
@@ -358,7 +358,7 @@ module _ {S A State : Type 0} (device : Source S) {format : Format A State} {inp
       ∙ ap (λ f. record { members = past; fault = f }) told
 
   -- one with a fault
-  pub says_fault : (Kinds : Kind → Type 0) (past : List (Member A)) (fault : FaultValue) (handed : Handed) → Came device first last (Some fault) handed → (bytes : List ℕ) × Hands device.left old.below bytes new.below
+  pub says_fault : (Kinds : Kind → Type 0) (past : List (Member A)) (fault : FaultValue) (handed : Handed) → Came device first last (Some fault) handed → (bytes : List ℕ) × Hands device old.below bytes new.below
       → HasFaultBehind device old Kinds past fault new → ((good_handed format input handed).members ≡ past) × ((good_handed format input handed).fault ≡ Some fault)
   says_fault Kinds past fault handed came hands (inl wrong) = grind (arith, (came_whole came hands wrong.served wrong.within (λ good. (good.members ≡ past) × (good.fault ≡ Some fault)) wrong.whole))
   says_fault Kinds past fault handed came hands (inr unread) = grind (arith, (came_cut past fault handed came unread))
@@ -366,7 +366,7 @@ module _ {S A State : Type 0} (device : Source S) {format : Format A State} {inp
   -- what was handed over, by how many lines were read
   pub handed_to : (count : ℕ) (text : List ℕ) → device.left first ≡ Some text
       → IfSome (lines_left device.left old.below) (λ lines. IfSome (device.left (source_of new.below)) (λ rest. bytes_in (drop (suc count) lines) ≤ length rest + block_size))
-      → (bytes : List ℕ) × Hands device.left old.below bytes new.below
+      → (bytes : List ℕ) × Hands device old.below bytes new.below
       → (handed : List ℕ) × Consumes (device.left first) (device.left last) handed × (length handed ≤ bytes_in (take (suc count) (text_lines text)) + block_size)
   handed_to count text e near hands =
       let handed = consumed_by device old.below new.below begins.source ended begins.bytes hands.0 hands.1 in

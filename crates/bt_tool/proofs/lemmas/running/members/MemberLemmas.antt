@@ -11,7 +11,8 @@ use Rattle.bt_lines.specs.declared.fault.Input.{Input}
 use Rattle.bt_lines.specs.declared.fault.Kind.{Kind}
 use Rattle.bt_lines.specs.declared.reader.line_reader.LineReader.{LineReader}
 use Rattle.bt_lines.specs.inside.ReadBuffer.{unread}
-use Rattle.bt_lines.proofs.lemmas.reader.lines.TakingLemmas.{hands_none, hands_both, sound_near}
+use Rattle.bt_lines.proofs.lemmas.reader.block.ReadsLemmas.{hands_none, hands_both}
+use Rattle.bt_lines.proofs.lemmas.reader.lines.TakingLemmas.{sound_near}
 use Rattle.bt_lines.proofs.lemmas.reader.lines.TextLemmas.{bytes_in-append}
 use Rattle.bt_tool.specs.inside.Feed.{IsFresh, AreAll, ComeFirst, HasFaultBehind, HasTaken, IsReadFor, LacksMemory, PassesMembers, StopsAfter, member_items}
 use Rattle.bt_bed.proofs.lemmas.read.good.ReadingLemmas.{near_pass, LineCame}
@@ -78,14 +79,14 @@ members_last : {A : Type 0} (from : ℕ) (xs : List A) (a : A) → members_from 
 members_last {A} from [] a = ap (λ (n : ℕ). record { line = n; item = a } ∷ []) (let none : from ≡ from + 0 = omega arith in none)
 members_last {A} from (x ∷ xs) a = grind (arith, (members_last (suc from) xs a))
 
-coming_known : {S A State : Type 0} (left : S → Option (List ℕ)) (old new : MemberReader S A State) (bytes : List ℕ) → Hands left old.below bytes new.below
-    → IsSome (good_coming left old) → IsSome (good_coming left new)
+coming_known : {S A State : Type 0} (device : Source S) (old new : MemberReader S A State) (bytes : List ℕ) → Hands device old.below bytes new.below
+    → IsSome (good_coming device.left old) → IsSome (good_coming device.left new)
 unfolding good_coming bytes_left
-coming_known left old new bytes hands k = grind arith
+coming_known device old new bytes hands k = grind arith
 
-bytes_known : {S : Type 0} (left : S → Option (List ℕ)) (old new : LineReader S) (bytes : List ℕ) → Hands left old bytes new → IsSome (lines_left left old) → IsSome (left (source_of new))
+bytes_known : {S : Type 0} (device : Source S) (old new : LineReader S) (bytes : List ℕ) → Hands device old bytes new → IsSome (lines_left device.left old) → IsSome (device.left (source_of new))
 unfolding bytes_left
-bytes_known left old new bytes hands k = grind arith
+bytes_known device old new bytes hands k = grind arith
 
 ended_held : {S : Type 0} (reader : LineReader S) → has_ended reader ≡ true → held reader ≡ []
 unfolding has_ended held
@@ -152,7 +153,7 @@ module _ {S A State : Type 0} (device : Source S) (old : MemberReader S A State)
   pub passes_start : IsFresh device old → line_fault old.below ≡ None → PassesMembers device old [] old
   passes_start fresh clear = record {
     format = refl;
-    bytes = ([], hands_none device.left old.below);
+    bytes = ([], hands_none device old.below);
     said = tt;
     state = refl;
     come = grind arith;
@@ -167,8 +168,8 @@ module _ {S A State : Type 0} (device : Source S) (old : MemberReader S A State)
   }
 
   module _ (past : List (Member A)) (now : MemberReader S A State) (g : PassesMembers device old past now) where
-    pub bytes_more : (new : MemberReader S A State) → (bytes : List ℕ) × Hands device.left now.below bytes new.below → (bytes : List ℕ) × Hands device.left old.below bytes new.below
-    bytes_more new hands = (g.bytes.0 ++ hands.0, hands_both device.left old.below now.below new.below g.bytes.0 hands.0 g.bytes.1 hands.1)
+    pub bytes_more : (new : MemberReader S A State) → (bytes : List ℕ) × Hands device now.below bytes new.below → (bytes : List ℕ) × Hands device old.below bytes new.below
+    bytes_more new hands = (g.bytes.0 ++ hands.0, hands_both device old.below now.below new.below g.bytes.0 hands.0 g.bytes.1 hands.1)
 
     -- a member is buffered
     pub passes_fill : (new : MemberReader S A State) → IsFilled device now new → PassesMembers device old past new
@@ -229,11 +230,11 @@ module _ {S A State : Type 0} (device : Source S) (old : MemberReader S A State)
       bytes = bytes_more new ended.ends.stays.bytes;
       said = g.said;
       come = come_end (good_coming device.left old) (good_coming device.left now) (good_coming device.left new) past g.come
-          (coming_known device.left now new ended.ends.stays.bytes.0 ended.ends.stays.bytes.1) ended.ends.none_left ended.ends.none_comes;
+          (coming_known device now new ended.ends.stays.bytes.0 ended.ends.stays.bytes.1) ended.ends.none_left ended.ends.none_comes;
       behind = up_to (lines_given now.below) (lines_given new.below) past ended.ends.rises g.behind;
       lines = lines_on (lines_left device.left old.below) (lines_left device.left now.below) (lines_left device.left new.below) (lines_given now.below) (lines_given new.below) ended.ends.rises g.lines
           (lines_end (lines_left device.left now.below) (lines_left device.left new.below) (lines_given new.below - lines_given now.below)
-          (λ k. none_left_told device.left new.below ended.ends.told ended.ends.ends (bytes_known device.left now.below new.below ended.ends.stays.bytes.0 ended.ends.stays.bytes.1 k)) ended.ends.lines);
+          (λ k. none_left_told device.left new.below ended.ends.told ended.ends.ends (bytes_known device now.below new.below ended.ends.stays.bytes.0 ended.ends.stays.bytes.1 k)) ended.ends.lines);
       state = ended.ends.state ∙ g.state;
       going = ended.ends.goes;
       clear = ended.clear ended.ends.goes;
@@ -256,7 +257,7 @@ module _ {S A State : Type 0} (device : Source S) (old : MemberReader S A State)
         is = unread.fails.is ∙ ap (λ input. read_failed input (suc (lines_given new.below))) (g.bytes.1.same_input);
         kept = answers.kept;
         cause = unread.fails.cause;
-        cut = cuts_both device.left old.below now.below new.below g.bytes.0 g.bytes.1 unread.fails.before_end (g.kept.within g.clear) (unread.fails.cut g.kept);
+        cut = cuts_both device old.below now.below new.below g.bytes.0 g.bytes.1 unread.fails.before_end (g.kept.within g.clear) (unread.fails.cut g.kept);
         members = begins_beyond (good_coming device.left old) (good_coming device.left now) past (lines_given new.below) g.come unread.passed;
         behind = up_to (lines_given now.below) (lines_given new.below) past answers.rises g.behind;
       }))
@@ -388,7 +389,7 @@ module _ {S A State : Type 0} {device : Source S} {old now : MemberReader S A St
       → ComeFirst (good_coming device.left old) given (good_coming device.left new) → All (λ m. m.line ≤ lines_given new.below) given → PassesMembers device old given new
   passes_with given said state come behind = record {
     format = format ∙ g.format;
-    bytes = (g.bytes.0 ++ gives.bytes.0, hands_both device.left old.below now.below new.below g.bytes.0 gives.bytes.0 g.bytes.1 gives.bytes.1);
+    bytes = (g.bytes.0 ++ gives.bytes.0, hands_both device old.below now.below new.below g.bytes.0 gives.bytes.0 g.bytes.1 gives.bytes.1);
     said = said;
     state = state;
     come = come;

@@ -45,7 +45,7 @@ BeginsWith {A} device reader items = IfSome (good_coming device.left reader) (λ
 
 -- some bytes of it were handed over
 abbrev HandsOver : {S A State : Type 0} → Source S → MemberReader S A State → MemberReader S A State → Type 0
-HandsOver device old new = (bytes : List ℕ) × Hands device.left old.below bytes new.below
+HandsOver device old new = (bytes : List ℕ) × Hands device old.below bytes new.below
 
 begins_items : {S A State : Type 0} (device : Source S) (reader : MemberReader S A State) (past : List (Member A)) (items rest : List A) → member_items past ≡ items ++ rest
     → IfSome (good_coming device.left reader) (λ good. (rest : List (Member A)) × (good.members ≡ past ++ rest)) → BeginsWith device reader items

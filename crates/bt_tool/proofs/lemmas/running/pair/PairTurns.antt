@@ -14,7 +14,7 @@ use Rattle.bt_tool.proofs.lemmas.running.members.MemberLemmas.{IsFilled, IsOver,
 use Rattle.bt_tool.proofs.lemmas.running.feed.FeedLemmas.{put_more}
 use Rattle.bt_lines.specs.declared.reader.line_reader.LineReader.{LineReader}
 use Rattle.bt_lines.specs.declared.fault.Kind.{Kind}
-use Rattle.bt_lines.proofs.lemmas.reader.lines.TakingLemmas.{hands_both}
+use Rattle.bt_lines.proofs.lemmas.reader.block.ReadsLemmas.{hands_both}
 use Rattle.bt_tool.specs.inside.SweepLoop.{ChecksUpTo}
 use Rattle.bt_tool.proofs.lemmas.running.feed.WritingLemmas.{up_to}
 
@@ -373,7 +373,7 @@ reads_taken device old taken now new has read = grind arith
 
 -- how far a reader has come
 pub record IsReadOn {S A State : Type 0} (device : Source S) (before now : MemberReader S A State) : Type 0 where
-  pub bytes : (bytes : List ℕ) × Hands device.left before.below bytes now.below
+  pub bytes : (bytes : List ℕ) × Hands device before.below bytes now.below
   pub rises : lines_given before.below ≤ lines_given now.below
   -- the member that was ahead is consumed, if any is
   pub moves : (now ≡ before) ⊎ (lines_given before.below < lines_given now.below)
@@ -396,7 +396,7 @@ module _ {S A State : Type 0} (device : Source S) (before : MemberReader S A Sta
         record {
           bytes = (
             (on.bytes.0 ++ hands.0) ++ [],
-            hands_both device.left before.below filled.below next.below (on.bytes.0 ++ hands.0) [] (hands_both device.left before.below now.below filled.below on.bytes.0 hands.0 on.bytes.1 hands.1) has.takes.hands,
+            hands_both device before.below filled.below next.below (on.bytes.0 ++ hands.0) [] (hands_both device before.below now.below filled.below on.bytes.0 hands.0 on.bytes.1 hands.1) has.takes.hands,
           );
           rises = omega (arith, less);
           moves = inr less;

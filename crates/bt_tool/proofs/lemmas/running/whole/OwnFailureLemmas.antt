@@ -42,39 +42,39 @@ pub swept_no_read : (order : Order) (limit : Option ℕ) → IsSweptKind order l
 swept_no_read order limit p1 = grind arith
 
 -- a reader that keeps no fault
-pub none_kept : {S : Type 0} (IsRead : S → Option ℕ → S → Type 0) (old : LineReader S) (kept : Option FaultValue) (lines : LineReader S) → kept ≡ None → IsOwnFault IsRead old kept lines
+pub none_kept : {S : Type 0} (IsRead : S → Option (List ℕ) → S → Type 0) (old : LineReader S) (kept : Option FaultValue) (lines : LineReader S) → kept ≡ None → IsOwnFault IsRead old kept lines
 none_kept IsRead old kept lines none input line e = absurd (let apart : None ≡ Some (read_failed input line) = sym none ∙ e in cc)
 
 -- one that keeps the fault that it reported
-pub told_kept : {S : Type 0} (IsRead : S → Option ℕ → S → Type 0) (before kept : Option FaultValue) (old lines : LineReader S) (fault : Fault) → kept ≡ Some (fault_value fault) → before ≡ None
+pub told_kept : {S : Type 0} (IsRead : S → Option (List ℕ) → S → Type 0) (before kept : Option FaultValue) (old lines : LineReader S) (fault : Fault) → kept ≡ Some (fault_value fault) → before ≡ None
     → TellsOwnFailure {T = Unit {0}} IsRead before old (Err fault) lines → IsOwnFault IsRead old kept lines
 told_kept IsRead before kept old lines fault is none own input line e = (own none).unread input line (sym is ∙ e)
 
 -- the same of a reader of lines
-pub line_told_kept : {S : Type 0} (IsRead : S → Option ℕ → S → Type 0) (old lines : LineReader S) (fault : Fault) → line_fault lines ≡ Some (fault_value fault) → line_fault old ≡ None
+pub line_told_kept : {S : Type 0} (IsRead : S → Option (List ℕ) → S → Type 0) (old lines : LineReader S) (fault : Fault) → line_fault lines ≡ Some (fault_value fault) → line_fault old ≡ None
     → LineTellsOwnFailure {A = Option Line} IsRead old (Err fault) lines → IsOwnFault IsRead old (line_fault lines) lines
 line_told_kept IsRead old lines fault is none own input line e = (own none).unread input line (sym is ∙ e)
 
 -- it is one of the reads since before those that served
-pub own_then : {S : Type 0} (IsRead : S → Option ℕ → S → Type 0) (old now : LineReader S) (kept : Option FaultValue) (lines : LineReader S) → HasRead IsRead old now → IsOwnFault IsRead now kept lines → IsOwnFault IsRead old kept lines
+pub own_then : {S : Type 0} (IsRead : S → Option (List ℕ) → S → Type 0) (old now : LineReader S) (kept : Option FaultValue) (lines : LineReader S) → HasRead IsRead old now → IsOwnFault IsRead now kept lines → IsOwnFault IsRead old kept lines
 own_then IsRead old now kept lines so_far own input line e = unread_then IsRead old now lines so_far (own input line e)
 
 -- what its reader of lines keeps
-pub kept_below : {S A State : Type 0} (IsRead : S → Option ℕ → S → Type 0) (old : LineReader S) (reader : MemberReader S A State) (lines : LineReader S) → reader.below ≡ lines → IsKeptBelow reader lines → IsOwnFault IsRead old (line_fault lines) lines
+pub kept_below : {S A State : Type 0} (IsRead : S → Option (List ℕ) → S → Type 0) (old : LineReader S) (reader : MemberReader S A State) (lines : LineReader S) → reader.below ≡ lines → IsKeptBelow reader lines → IsOwnFault IsRead old (line_fault lines) lines
     → KeepsOwnFault IsRead old reader
 kept_below IsRead old reader lines is below own input line e = subst (IsOwnFault IsRead old (line_fault lines)) (sym is) own input line (below input line e)
 
 -- the reads of a reader are those of its run
-pub own_failure_of : {S : Type 0} (IsRead : S → Option ℕ → S → Type 0) (first last : S) (old new : LineReader S) → source_of old ≡ first → source_of new ≡ last → bytes_taken old ≡ 0 → IsUnread IsRead old new → IsOwnFailure IsRead first last
+pub own_failure_of : {S : Type 0} (IsRead : S → Option (List ℕ) → S → Type 0) (first last : S) (old new : LineReader S) → source_of old ≡ first → source_of new ≡ last → bytes_taken old ≡ 0 → IsUnread IsRead old new → IsOwnFailure IsRead first last
 own_failure_of IsRead first last old new starts ends fresh p1 = grind arith
 
 -- what the reads of a reader gave is what those of its run did
-pub served_of : {S : Type 0} (IsRead : S → Option ℕ → S → Type 0) (first last : S) (old new : LineReader S) → source_of old ≡ first → source_of new ≡ last → HasRead IsRead old new → ReadsServe IsRead first last
+pub served_of : {S : Type 0} (IsRead : S → Option (List ℕ) → S → Type 0) (first last : S) (old new : LineReader S) → source_of old ≡ first → source_of new ≡ last → HasRead IsRead old new → ReadsServe IsRead first last
 served_of IsRead first last old new starts ends read = grind arith
 
 -- a source that wasn't read
-pub serve_same : {S : Type 0} (IsRead : S → Option ℕ → S → Type 0) (source : S) → ReadsServe IsRead source source
-serve_same IsRead source = record { given = 0; served = begun }
+pub serve_same : {S : Type 0} (IsRead : S → Option (List ℕ) → S → Type 0) (source : S) → ReadsServe IsRead source source
+serve_same IsRead source = record { bytes = []; served = begun }
 
 pub tells_nothing : (G F S : Type 0) (fault : Option FaultValue) → fault ≡ None → TellsOwnReads G F S fault
 tells_nothing G F S fault none = grind arith
@@ -145,7 +145,7 @@ module _ {G : Type 0} {device : Source G} {genome after : G} {old : LineReader G
   pub knows_read : {table : GenomeTable} → ReadsAll device old new table → IsSound device new → KnowsChromosomes device (Some genome) (Some after) (Some table)
   knows_read reads next = search rules
 
-  module _ (fault : FaultValue) (bytes : (bytes : List ℕ) × Hands device.left old bytes new) (next : IsSound device new) where
+  module _ (fault : FaultValue) (bytes : (bytes : List ℕ) × Hands device old bytes new) (next : IsSound device new) where
     unread_text : EntryUnread device old new fault → (handed : Handed) → Reads device genome after handed → chromosomes_of (Some handed) ≡ Err fault
     unread_text unread handed reads =
         let texts = cut_text device old new source ended fresh handed reads unfed (unread.fails.cut (record { end = sound.end; within = sound.within })) in

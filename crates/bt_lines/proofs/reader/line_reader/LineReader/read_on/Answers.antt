@@ -1,5 +1,5 @@
 use Rattle.bt_lines.proofs.Std.{refl}
-use Rattle.bt_lines.proofs.lemmas.reader.block.FillLemmas.{fills_after_last, fills_again}
+use Rattle.bt_lines.proofs.lemmas.reader.block.FillLemmas.{fails_again, fills_after_last, fills_again}
 use Rattle.bt_lines.proofs.lemmas.reader.block.ReadsLemmas.{reads_none, reads_same}
 use Rattle.bt_lines.proofs.lemmas.reader.lines.StepLemmas.{told_ended, told_last}
 use Rattle.bt_lines.proofs.reader.line_reader.LineReader.read_on.Goals as goal
@@ -16,3 +16,6 @@ returns-in-LastLine-clause-own_failure g c =
 
 pub returns-in-Ended-clause-own_failure : goal.returns-in-Ended-clause-own_failure
 returns-in-Ended-clause-own_failure g c = reads_same g.S.Source.is_read c.args.self.now c.args.self.now refl
+
+pub returns-in-ReadFailed-clause-fills : goal.returns-in-ReadFailed-clause-fills
+returns-in-ReadFailed-clause-fills g c = fails_again g.S.Source c.args.self.now c.fault.result c.fault.ensures
