@@ -8,15 +8,15 @@
 //! - *message*: the line that standard error gets, and the exit status that goes with it.
 //! - `StandIns`: the files that replace standard streams which were closed before the program began.
 //!
-//! An example, as the stored run in this crate's folder (`args`, `stdin`, `data`, `stdout`) makes it:
+//! An example, as the stored run in this crate's folder (`args`, `stdin`, `stdout`) makes it among the files of `data`:
 //!
 //! ```text
-//! $ tr '\t' ' ' < stdin
+//! $ cd data; tr '\t' ' ' < ../stdin
 //! chr1 100 200
 //! chr1 180 250
 //! chr1 250 500
 //! chr1 501 1000
-//! $ bedtools merge -i stdin -g data/g.txt < stdin | tr '\t' ' '
+//! $ bedtools merge -i stdin -g g.txt < ../stdin | tr '\t' ' '
 //! chr1 100 500
 //! chr1 501 1000
 //! ```
