@@ -28,13 +28,14 @@ EDITS = DOCS / "definitions.edits"
 TABLE = DOCS / "definitions.txt"
 # The crates with definitions.
 MODELS = ("bt_lines", "bt_bed", "bt_runs", "bt_sweep", "bt_seq", "bt_tool")
-# The definitions of those crates, of the worked values, and of the scan for intervals of equal depth.
-SPECS = ("*/specs/model/*.antt", "bt_laws/specs/WholeRuns.antt", "bt_laws/specs/Worked.antt", "bt_bed/specs/calls/LevelScan.antt")
-LEMMAS = ("bt_lines/proofs/Std.antt", "bt_bed/proofs/lemmas/LevelScans.antt")
+# The definitions of those crates, of the worked values, and of the scans for stretches and for intervals of equal depth.
+SPECS = ("*/specs/model/*.antt", "bt_laws/specs/WholeRuns.antt", "bt_laws/specs/Worked.antt", "bt_bed/specs/calls/LevelScan.antt",
+         "bt_bed/specs/calls/Stretches.antt")
+LEMMAS = ("bt_lines/proofs/Std.antt", "bt_bed/proofs/lemmas/LevelScans.antt", "bt_bed/proofs/lemmas/StretchScans.antt")
 HEAD = "# What definitions.py writes: file | definition | wrong variant | the worked values that it breaks\n"
 
-# The root of the small crate. A definition may not name a proof of its own crate, as that of depths does: it names the scan, of
-# which this function says that it finds the one list.
+# The root of the small crate. A definition may not name a proof of its own crate, as those of depths and stretches do: it names
+# the scan, of which these functions say that it finds the one list.
 ROOT = """//! Definitions and worked values.
 #![tactic(auto)]
 
@@ -42,13 +43,21 @@ pub mod options;
 pub mod types;
 pub mod worked;
 
-ghost use Rattle.std.specs.Prelude.{ℕ, List, Option, ◌≡◌};
+ghost use Rattle.std.specs.Prelude.{ℕ, Bool, List, Option, ◌≡◌};
+ghost use Rattle.definitions.specs.bt_bed.Feature.{Span};
 ghost use Rattle.definitions.specs.bt_bed.LevelScan.{scanned};
 ghost use Rattle.definitions.specs.bt_bed.Levels.{AreLevelsOf, Level};
+ghost use Rattle.definitions.specs.bt_bed.Positions.{AreStretchesOf, PassesBelow};
+ghost use Rattle.definitions.specs.bt_bed.Stretches.{stretches_from};
 
 pub fn levels()
     ensures are { (value : ℕ → Option ℕ) (size : ℕ) → AreLevelsOf value size (scanned value size) }
     ensures only { (value : ℕ → Option ℕ) (size : ℕ) (levels : List Level) → AreLevelsOf value size levels → levels ≡ scanned value size }
+{}
+
+pub fn stretches()
+    ensures are { (test : ℕ → Bool) (size : ℕ) → AreStretchesOf (PassesBelow test size) (stretches_from test 0 size) }
+    ensures only { (test : ℕ → Bool) (size : ℕ) (spans : List Span) → AreStretchesOf (PassesBelow test size) spans → spans ≡ stretches_from test 0 size }
 {}
 """
 LEVELS_ANSWERS = """use Rattle.definitions.proofs.LevelScans.{are_scanned, only_scanned}
@@ -60,6 +69,15 @@ returns-clause-are c = are_scanned
 pub returns-clause-only : goal.returns-clause-only
 returns-clause-only c = only_scanned
 """
+STRETCHES_ANSWERS = """use Rattle.definitions.proofs.StretchScans.{scan_finds, only_scan}
+use Rattle.definitions.proofs.stretches.Goals as goal
+
+pub returns-clause-are : goal.returns-clause-are
+returns-clause-are c = scan_finds
+
+pub returns-clause-only : goal.returns-clause-only
+returns-clause-only c = only_scan
+"""
 
 
 def renamed(text):
@@ -67,7 +85,7 @@ def renamed(text):
     text = re.sub(r"Rattle\.bt_\w+\.specs\.declared\.[a-z_.]+\.([A-Z])", r"Rattle.definitions.specs.declared.types.\1", text)
     text = re.sub(r"Rattle\.(bt_\w+)\.specs\.(?:model\.|calls\.)?", r"Rattle.definitions.specs.\1.", text)
     text = re.sub(r"Rattle\.bt_\w+\.proofs\.(?:lemmas\.)?", "Rattle.definitions.proofs.", text)
-    text = re.sub(r"\b(bt_\w+)::specs::model::", r"crate::specs::\1::", text)
+    text = re.sub(r"\b(bt_\w+)::specs::(?:model|calls)::", r"crate::specs::\1::", text)
     return re.sub(r"^use bt_\w+::", "use crate::types::", text, flags=re.M)
 
 
@@ -104,17 +122,28 @@ def put_specs(crate):
     for owner, names in modules.items():
         put(crate / f"specs/{owner}.antt", "".join(f"pub mod {name}\n" for name in sorted(names)))
     put(crate / "specs/Lib.antt", "".join(f"pub mod {owner}\n" for owner in sorted(modules)))
-    put_scan(crate / "specs/bt_runs/Depth.antt")
+    put_level_scan(crate / "specs/bt_runs/Depth.antt")
+    put_scan(crate / "specs/bt_runs/Merged.antt")
+    put_scan(crate / "specs/bt_sweep/Lines.antt")
     return texts
 
 
-def put_scan(path):
+def put_level_scan(path):
     """Has the definition of depths name the scan for the one list that there is."""
     text = path.read_text()
     text = re.sub(r"^abbrev pub the_levels .*?\n\n", "", text, flags=re.S | re.M)
     text = text.replace("(the_levels value size).levels", "scanned value size")
     text = text.replace("proofs.LevelScans.{one_list}", "specs.bt_bed.LevelScan.{scanned}")
     path.write_text(text.replace("Levels.{Level, OneList}", "Levels.{Level}"))
+
+
+def put_scan(path):
+    """Has a definition by stretches name the scan for the one list that there is."""
+    text = path.read_text()
+    text = re.sub(r"^abbrev pub the_stretches .*?\n\n", "", text, flags=re.S | re.M)
+    text = re.sub(r"^use [^\n]*\{OneSpanList\}\n", "", text, flags=re.M)
+    text = re.sub(r"\(the_stretches (\w+|\([^()]*\)) ([\w.]+)\)\.spans", r"stretches_from \1 0 \2", text)
+    path.write_text(text.replace("proofs.StretchScans.{one_span_list}", "specs.bt_bed.Stretches.{stretches_from}"))
 
 
 def put_worked(crate):
@@ -129,8 +158,9 @@ def put_worked(crate):
         put(crate / "proofs" / path.relative_to(laws / "proofs"), path.read_text())
     for path in (CRATES / name for name in LEMMAS):
         put(crate / "proofs" / path.name, path.read_text())
-    put(crate / "proofs/Lib.antt", "pub mod LevelScans\npub mod Std\n")
+    put(crate / "proofs/Lib.antt", "pub mod LevelScans\npub mod Std\npub mod StretchScans\n")
     put(crate / "proofs/levels/Answers.antt", LEVELS_ANSWERS)
+    put(crate / "proofs/stretches/Answers.antt", STRETCHES_ANSWERS)
 
 
 def make(folder):
@@ -192,7 +222,8 @@ def broken_values(said):
     # Values that have no answer of their own are in notes, before the line of their function.
     for notes, function in re.findall(r"((?:^note: [^\n]*\n)+)fn definitions::(?:\w+::)*(\w+): ", said, re.M):
         found += [(function, goal) for goal in re.findall(r"it is not proved [^\n]*\(`returns-clause-(\w+)`\)", notes)]
-    found += [("levels", lemma) for lemma in re.findall(r"^\./proofs/LevelScans\.antt:\d+:\d+: error: `(\w+)`", said, re.M)]
+    for function, file in (("levels", "LevelScans"), ("stretches", "StretchScans")):
+        found += [(function, lemma) for lemma in re.findall(rf"^\./proofs/{file}\.antt:\d+:\d+: error: `([\w-]+)`", said, re.M)]
     return sorted(f"{function}: {goal}" for function, goal in set(found))
 
 

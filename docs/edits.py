@@ -2,8 +2,8 @@
 """Checks that the refused edits of must-fail/ and mutants/ fit the code, and prints a line for each problem.
 
 An edit has lines 'file: NAME', and after each of them pairs of lines 'old: TEXT' and 'new: TEXT'. The file exists in the
-edit's crate, each old TEXT occurs in it exactly once, the new TEXT is another, and no two edits of a crate make the same
-change.
+edit's crate, each old TEXT occurs exactly once in what the edit's earlier pairs made of it, the new TEXT is another, and no two
+edits of a crate make the same change.
 """
 import sys
 from pathlib import Path
@@ -30,12 +30,17 @@ def problems_of(crate, path, seen):
     """What is wrong with one edit. `seen` has the changes of the crate's other edits."""
     changes = changes_of(path)
     found = [] if changes else ["no change"]
+    # The files as the earlier pairs made them.
+    made = {}
     for name, old, new in changes:
         source = crate / name if name else None
         if source is None or not source.is_file():
             found.append(f"no file {name}")
-        elif (count := source.read_text().count(old)) != 1:
-            found.append(f"{name} has {count} times: {old.strip()}")
+        else:
+            text = made.get(name) or source.read_text()
+            if (count := text.count(old)) != 1:
+                found.append(f"{name} has {count} times, after the pairs before: {old.strip()}")
+            made[name] = text.replace(old, new)
         if old == new:
             found.append(f"changes nothing: {old.strip()}")
     key = tuple((name, old.strip(), new.strip()) for name, old, new in changes)

@@ -94,8 +94,8 @@ WORD = re.compile(r"(?<![.\w])\w+")
 FROM_MODEL = re.compile(r"^use Rattle\.(bt_\w+)\.specs\.model\.(\w+)\.\{(.*)\}", re.MULTILINE)
 MAY_IMPORT = re.compile(r"use Rattle\.(?:std\.specs|bt_\w+\.specs\.(?:model|declared))\.")
 
-# What the model takes from proofs: a value whose type is a definition of the model that says which value it is.
-FOUND = "use Rattle.bt_bed.proofs.lemmas.LevelScans.{one_list}"
+# What the model takes from proofs: values whose types are definitions of the model that say which values they are.
+FOUND = ("use Rattle.bt_bed.proofs.lemmas.LevelScans.{one_list}", "use Rattle.bt_bed.proofs.lemmas.StretchScans.{one_span_list}")
 
 # Where ARCHITECTURE.md lists these files: from one line to another.
 LIST_BEGINS = "<!-- docs/links.py --write writes this list -->\n"
@@ -246,7 +246,7 @@ def strays():
     """What files of `model` import that isn't of it, of std or made of code, and the files that the report doesn't name."""
     for file in sorted(model()):
         for line in re.findall(r"^\s*((?:pub )?use .*)", file.read_text(encoding="utf-8"), re.MULTILINE):
-            if not MAY_IMPORT.match(line) and line != FOUND:
+            if not MAY_IMPORT.match(line) and line not in FOUND:
                 yield f"{file.relative_to(TOP)} has an import that isn't of the model: {line}"
     for file in sorted(model() - definitions()):
         yield f"{file.relative_to(TOP)} is of the model, and the report doesn't name it"

@@ -4,10 +4,10 @@ use Rattle.bt_tool.specs.calls.Plan.{words_seen}
 use Rattle.bt_tool.specs.model.Usage.{usage_text}
 use Rattle.bt_tool.specs.calls.CommandLine.{IsTellable}
 use Rattle.bedtools.specs.declared.message.Obstacle.{Obstacle}
-use Rattle.bedtools.specs.declared.message.Obstacle.TheVariants.{NotUnicode, Usage, ClosedStream, CannotOpen}
+use Rattle.bedtools.specs.declared.message.Obstacle.TheVariants.{NotUnicode, Usage, ClosedStream, CannotOpen, NoMemory}
 use Rattle.bedtools.specs.declared.message.Message.{Message}
 use Rattle.bedtools.specs.declared.message.MessageLine.{MessageLine}
-use Rattle.bedtools.specs.declared.message.MessageLine.TheVariants.{Nothing, Text, NoMemory}
+use Rattle.bedtools.specs.declared.message.MessageLine.TheVariants.{Nothing, Text, NoMemory as NoMemoryLine}
 
 -- a fault of usage is reported of the words that it is about
 abbrev pub CanBeReported : Obstacle → Type 0
@@ -15,6 +15,7 @@ CanBeReported NotUnicode = Unit {0}
 CanBeReported (Usage words usage) = IsTellable usage (length words.now)
 CanBeReported ClosedStream = Unit {0}
 CanBeReported (CannotOpen command name) = Unit {0}
+CanBeReported NoMemory = Unit {0}
 
 -- the line of a file that a command can't open
 abbrev pub cannot_open_text : List ℕ → List ℕ → List ℕ
@@ -27,6 +28,7 @@ obstacle_line NotUnicode = codes "bedtools: argument is not UTF-8\n"
 obstacle_line (Usage words usage) = usage_text (words_seen words.now) usage
 obstacle_line ClosedStream = codes "bedtools: standard stream is closed\n"
 obstacle_line (CannotOpen command name) = cannot_open_text command.now name.now
+obstacle_line NoMemory = codes "bedtools: no memory\n"
 
 -- the exit status
 abbrev pub obstacle_status : Obstacle → ℕ
@@ -34,12 +36,13 @@ obstacle_status NotUnicode = 2
 obstacle_status (Usage words usage) = 2
 obstacle_status ClosedStream = 1
 obstacle_status (CannotOpen command name) = 1
+obstacle_status NoMemory = 1
 
 -- what standard error gets
 abbrev pub message_seen : MessageLine → List ℕ
 message_seen Nothing = []
 message_seen (Text line) = line.items
-message_seen NoMemory = codes "bedtools: no memory\n"
+message_seen NoMemoryLine = codes "bedtools: no memory\n"
 
 -- a message says that there was no memory
 abbrev pub SaysNoMemory : Message → Type 0

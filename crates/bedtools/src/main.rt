@@ -8,15 +8,15 @@
 //! - *message*: the line that standard error gets, and the exit status that goes with it.
 //! - `StandIns`: the files that replace standard streams which were closed before the program began.
 //!
-//! An example, as the stored run in this crate's folder (`args`, `stdin`, `data`, `stdout`) makes it:
+//! An example, as the stored run in this crate's folder (`args`, `stdin`, `stdout`) makes it among the files of `data`:
 //!
 //! ```text
-//! $ tr '\t' ' ' < stdin
+//! $ cd data; tr '\t' ' ' < ../stdin
 //! chr1 100 200
 //! chr1 180 250
 //! chr1 250 500
 //! chr1 501 1000
-//! $ bedtools merge -i stdin -g data/g.txt < stdin | tr '\t' ' '
+//! $ bedtools merge -i stdin -g g.txt < ../stdin | tr '\t' ' '
 //! chr1 100 500
 //! chr1 501 1000
 //! ```
@@ -65,7 +65,9 @@ fn main(rt: HostRuntime) -> ExitCode {
 fn start_by_words(rt: &HostRuntime) -> Message {
     match words(rt) {
         Ok(words) => start(rt.alloc(), &mut SystemFiles { rt }, words.as_slice()).message,
-        Err(error) if error.kind() == io::ErrorKind::OutOfMemory => Message::no_memory(),
+        Err(error) if error.kind() == io::ErrorKind::OutOfMemory => {
+            Message::of(rt.alloc(), &Obstacle::NoMemory)
+        }
         Err(_) => Message::of(rt.alloc(), &Obstacle::NotUnicode),
     }
 }
@@ -99,7 +101,7 @@ fn start<F: Files>(alloc: Global, files: &mut F, words: &[String]) -> Finished<F
     let message = match plan(alloc, words) {
         Ok(plan) => return carry_out(alloc, files, &plan),
         Err(Refusal::Usage(usage)) => Message::of(alloc, &Obstacle::Usage(words, usage)),
-        Err(Refusal::NoMemory) => Message::no_memory(),
+        Err(Refusal::NoMemory) => Message::of(alloc, &Obstacle::NoMemory),
     };
     Finished {
         message,
@@ -197,7 +199,7 @@ fn open_output<F: Files>(alloc: Global, files: &mut F, plan: &Plan) -> Result<F:
     };
     match files.create(plan, name.as_str()) {
         Ok(output) => Ok(output),
-        Err(Unopened::NoMemory) => Err(Message::no_memory()),
+        Err(Unopened::NoMemory) => Err(Message::of(alloc, &Obstacle::NoMemory)),
         Err(Unopened::Refused) => Err(cannot_open(alloc, plan, name.as_str())),
     }
 }
@@ -233,7 +235,7 @@ fn open<F: Files>(
 {
     match files.open(name) {
         Ok(input) => Ok(input),
-        Err(Unopened::NoMemory) => Err(Message::no_memory()),
+        Err(Unopened::NoMemory) => Err(Message::of(alloc, &Obstacle::NoMemory)),
         Err(Unopened::Refused) => Err(cannot_open(alloc, plan, name)),
     }
 }
@@ -252,7 +254,7 @@ fn end_of(alloc: Global, plan: &Plan, outcome: &Outcome) -> Message
     let line = match outcome.fault_line(alloc, plan) {
         Ok(Some(line)) => MessageLine::Text(line),
         Ok(None) => MessageLine::Nothing,
-        Err(_) => return Message::no_memory(),
+        Err(_) => return Message::of(alloc, &Obstacle::NoMemory),
     };
     Message {
         line,

@@ -18,6 +18,8 @@ pub enum Obstacle<'a> {
     ClosedStream,
     /// A file of this name, which a run of this command needs, can't be opened.
     CannotOpen(&'a str, &'a str),
+    /// There is no memory.
+    NoMemory,
 }
 
 /// What standard error is to say, and the exit status that goes with it.
@@ -39,7 +41,7 @@ pub enum MessageLine {
 
 impl Message {
     /// Says what kept a run from beginning. The exit status is 2 for a command line that can't be used,
-    /// else 1. If there is no memory for the line, that is reported, with status 1.
+    /// else 1. If there is no memory for the line, that is reported, with status 1; this line needs none.
     pub fn of(alloc: Global, obstacle: &Obstacle<'_>) -> Message
         requires { CanBeReported obstacle.now }
         ensures { Says (obstacle_line obstacle.now) (obstacle_status obstacle.now) result }
@@ -49,18 +51,10 @@ impl Message {
                 line: MessageLine::Text(line),
                 status: status_of(obstacle),
             },
-            Err(_) => Message::no_memory(),
-        }
-    }
-
-    /// Says that there was no memory.
-    pub fn no_memory() -> Message
-        ensures line { message_seen result.line ≡ codes "bedtools: no memory\n" }
-        ensures status { result.status ≡ 1 }
-    {
-        Message {
-            line: MessageLine::NoMemory,
-            status: 1,
+            Err(AllocError) => Message {
+                line: MessageLine::NoMemory,
+                status: 1,
+            },
         }
     }
 
@@ -83,7 +77,7 @@ impl MessageLine {
     }
 }
 
-// The line of what kept a run from beginning.
+// The line of what kept a run from beginning. `Err` if there is no memory for it, or if that is what it is to say.
 fn line_of(alloc: Global, obstacle: &Obstacle<'_>) -> Result<Vec<u8>, AllocError>
     requires { CanBeReported obstacle.now }
     ensures { IfOk result (λ line. line.items ≡ obstacle_line obstacle.now) }
@@ -95,6 +89,7 @@ fn line_of(alloc: Global, obstacle: &Obstacle<'_>) -> Result<Vec<u8>, AllocError
             Vec::from_slice(alloc, b"bedtools: standard stream is closed\n")
         }
         Obstacle::CannotOpen(command, name) => cannot_open(alloc, command, name),
+        Obstacle::NoMemory => Err(AllocError),
     }
 }
 
@@ -104,7 +99,7 @@ fn status_of(obstacle: &Obstacle<'_>) -> u8
 {
     match obstacle {
         Obstacle::NotUnicode | Obstacle::Usage(_, _) => 2,
-        Obstacle::ClosedStream | Obstacle::CannotOpen(_, _) => 1,
+        Obstacle::ClosedStream | Obstacle::CannotOpen(_, _) | Obstacle::NoMemory => 1,
     }
 }
 
@@ -135,11 +130,12 @@ mod tests {
         ];
         let unopened = Obstacle::CannotOpen("merge", "g.txt");
         let usage = Obstacle::Usage(&words, Usage { number: 2, word: 1 });
-        let cases: [(Obstacle<'_>, &str, u8); 4] = [
+        let cases: [(Obstacle<'_>, &str, u8); 5] = [
             (unopened, " merge: g.txt: cannot be opened", 1),
             (Obstacle::NotUnicode, ": argument is not UTF-8", 2),
             (Obstacle::ClosedStream, ": standard stream is closed", 1),
             (usage, ": unknown option: -q", 2),
+            (Obstacle::NoMemory, ": no memory", 1),
         ];
         for (obstacle, text, status) in &cases {
             let message = Message::of(alloc, obstacle);
@@ -148,13 +144,5 @@ mod tests {
             assert_eq!(rt; message.status, *status);
         }
         Ok(())
-    }
-
-    #[test]
-    fn want_of_memory(rt: HostRuntime) {
-        let message = Message::no_memory();
-        let line = b"bedtools: no memory\n".as_slice();
-        assert_eq!(rt; message.line.as_bytes(), line);
-        assert_eq!(rt; message.status, 1);
     }
 }

@@ -1,7 +1,7 @@
 -- Sums, pairs and bases.
 use Rattle.std.specs.Prelude.{◌≡◌, ◌-◌, ◌*◌, ℕ, false, List, filter, min, sum_by, Option, Some, ◌⊎◌, true, [], ◌∷◌, map, flat_map, IsPermutation, None}
 use Rattle.bt_bed.specs.model.Feature.{Feature, intervals_of, Interval, spans_on}
-use Rattle.bt_bed.specs.calls.Stretches.{IsCovered}
+use Rattle.bt_bed.specs.model.Positions.{IsCovered}
 use Rattle.bt_bed.specs.model.BedLine.{bed_text}
 use Rattle.bt_bed.specs.model.Genome.{Entry}
 use Rattle.bt_bed.specs.declared.record.strand.Strand.{Strand}

@@ -2,7 +2,7 @@
 use Rattle.std.specs.Prelude.{◌≡◌, ℕ, ◌<◌, ◌≤◌, List, max, min, Bool, IsTrue, false, Some, Ok, All, ◌++◌, length, take, Option, None, ◌≢◌, IfSome, IfErr, ◌∷◌, ◌⊎◌, IsFalse, []}
 use Rattle.bt_bed.specs.model.Feature.{Interval, Span, Feature, intervals_of, last_of}
 use Rattle.bt_bed.specs.calls.Orders.{AreNonEmpty, AreDistinct, AreContiguous}
-use Rattle.bt_bed.specs.calls.Stretches.{AreStretchesOf}
+use Rattle.bt_bed.specs.model.Positions.{AreStretchesOf}
 use Rattle.bt_bed.specs.model.BedLine.{is_header, bed_text, record_of, IsBedKind}
 use Rattle.bt_bed.specs.calls.Features.{IsFeature}
 use Rattle.bt_lines.specs.model.Lines.{Handed, text_lines, TextLine}

@@ -1,7 +1,7 @@
 -- Merged runs, gaps and depths.
 use Rattle.std.specs.Prelude.{◌≡◌, ℕ, ◌<◌, ◌≤◌, Bool, cond, ⊤, IsTrue, List, [], ◌∷◌, map, Option, Some, None, true, false, not, nat_lt, ◌==◌, filter, ◌++◌, length}
 use Rattle.bt_bed.specs.model.Feature.{Span, Feature, Interval, intervals_of}
-use Rattle.bt_bed.specs.calls.Stretches.{AreStretchesOf}
+use Rattle.bt_bed.specs.model.Positions.{AreStretchesOf}
 use Rattle.bt_bed.specs.model.Levels.{AreLevelsOf, Level}
 use Rattle.bt_bed.specs.calls.LevelScan.{scanned}
 use Rattle.bt_runs.specs.model.Depth.{levels_of, DepthInterval, coverage, depth_at, settled_depths}

@@ -2,7 +2,7 @@
 
 ghost use Rattle.std.specs.Prelude.{◌≡◌, ℕ, List};
 ghost use Rattle.bt_bed.specs.model.Feature.{Feature, intervals_of, Span};
-ghost use Rattle.bt_bed.specs.calls.Stretches.{AreStretchesOf};
+ghost use Rattle.bt_bed.specs.model.Positions.{AreStretchesOf};
 ghost use Rattle.bt_bed.specs.calls.Orders.{ArePlaced, IsTotal, AreDistinct};
 ghost use Rattle.bt_bed.specs.model.Order.{Order, rank_order};
 ghost use Rattle.bt_runs.specs.calls.Engine.{SettledBegins, SettledStays};

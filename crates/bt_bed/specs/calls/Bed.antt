@@ -3,7 +3,7 @@ use Rattle.std.specs.Prelude.{ℕ, ◌≤◌, List, drop, length, take, Option, 
 use Rattle.bt_lines.specs.declared.fault.Kind.{Kind}
 use Rattle.bt_bed.specs.model.Feature.{Feature}
 use Rattle.bt_bed.specs.model.BedLine.{strand_of, kept_columns, record_of}
-use Rattle.bt_bed.specs.calls.Features.{IsFeature, columns_in}
+use Rattle.bt_bed.specs.calls.Features.{IsRecord, columns_in}
 use Rattle.bt_bed.specs.declared.record.bed.BedRef.{BedRef}
 use Rattle.bt_bed.specs.declared.record.strand.Strand.{Strand}
 use Rattle.std.specs.Io.BufRead.{strip_last}
@@ -55,10 +55,10 @@ feature_in text name_len start stop strand = record {
   rest = drop name_len text;
 }
 
--- the name is within the text, and the feature is one that a line can say
+-- the name is within the text, and the feature is a record
 pub record IsFeatureIn (text : List ℕ) (name_len start stop : ℕ) (strand : Strand) : Type 0 where
   pub within : name_len ≤ length text
-  pub is : IsFeature (feature_in text name_len start stop strand)
+  pub is : IsRecord (feature_in text name_len start stop strand)
 
 -- What a line says of which a record's start and end were read.
 

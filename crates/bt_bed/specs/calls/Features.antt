@@ -23,6 +23,12 @@ pub record IsName (name : List ℕ) : Type 0 where
   pub some : 0 < length name
   pub one_column : All (λ byte. (byte == 9) ≡ false) name
 
+-- a record, also one that a caller gives
+pub record IsRecord (feature : Feature) : Type 0 where
+  pub non_empty : feature.start < feature.stop
+  pub in_range : feature.stop ≤ max_number
+  pub kept : IsTrue (is_kept feature.rest)
+
 -- a feature that a line can say
 pub record IsFeature (feature : Feature) : Type 0 where
   pub named : IsName feature.chrom

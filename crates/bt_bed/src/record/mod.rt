@@ -12,7 +12,7 @@ ghost use Rattle.std.specs.Prelude.{◌≡◌, ◌∷◌, ◌++◌, ℕ, List, [
 ghost use Rattle.bt_bed.specs.calls.Bed.{feature_lent, raw_in, record_in};
 ghost use Rattle.bt_bed.specs.model.Feature.{Feature};
 ghost use Rattle.bt_bed.specs.model.BedLine.{bed_text};
-ghost use Rattle.bt_bed.specs.calls.Features.{IsFeature};
+ghost use Rattle.bt_bed.specs.calls.Features.{IsRecord};
 
 use crate::record::bed::BedRef;
 use crate::record::kept_strand::kept_strand;
@@ -43,7 +43,7 @@ pub trait Record: Copy {
     /// Where it ends on its chromosome, above its start; the end isn't included.
     fn stop(&self) -> u64
         ensures is { result ≡ (feature self.now).stop }
-        ensures said { IsFeature (feature self.now) };
+        ensures said { IsRecord (feature self.now) };
 
     /// Its text, if it is buffered as the record is written.
     fn written(&self) -> Option<&[u8]>

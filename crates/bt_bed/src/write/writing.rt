@@ -76,7 +76,8 @@ mod tests {
     // A line, the bounds of the part of its record that is written if it isn't written whole, and
     // what is written.
     #[rattlefmt::skip]
-    const WRITTEN: [(&[u8], Option<(u64, u64)>, &[u8]); 5] = [
+    const WRITTEN: [(&[u8], Option<(u64, u64)>, &[u8]); 6] = [
+        (b"chr1\t10\t30\ta", None, b"chr1\t10\t30\ta"),
         (b"chr1\t007\t9\tn\t0\t+", None, b"chr1\t7\t9\tn\t0\t+"),
         (b"chr 1\t000\t00012", None, b"chr 1\t0\t12"),
         (b"c\t999999999998\t999999999999\t", None, b"c\t999999999998\t999999999999\t"),

@@ -1,7 +1,7 @@
 -- Sums, pairs and bases.
 use Rattle.bt_lines.proofs.Std.{common_steps, ◌≡◌, ℕ, zero, suc, ◌+◌, ◌-◌, ◌*◌, ◌<◌, ◌≤◌, false, cond, List, [], ◌∷◌, map, filter, max, min, Option, Some, None, inl, inr, refl, sym, ap, ap₂, ◌∙◌, arith, ◌⊎◌, bytes_eq, flat_map, sum_by, or_parts, mul-suc, sum_by-append, sum_by-cons, ◌++◌, append_assoc, subst, IsPermutation, flat_map-append, map-append, IsPermutation-append_comm, IsPermutation-append_left, IsPermutation-append_right, IsPermutation-refl, IsPermutation-trans, flat_map-map, cases_Bool, false≢true}
 use Rattle.bt_bed.specs.model.Feature.{Feature, intervals_of, Interval, Span, spans_on, placed_on}
-use Rattle.bt_bed.specs.calls.Stretches.{IsCovered}
+use Rattle.bt_bed.specs.model.Positions.{IsCovered}
 use Rattle.bt_bed.specs.model.Genome.{Entry, genome_names}
 use Rattle.bt_bed.specs.model.Order.{is_among}
 use Rattle.bt_bed.specs.calls.Orders.{AreDistinct}

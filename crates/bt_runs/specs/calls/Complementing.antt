@@ -6,7 +6,7 @@ use Rattle.bt_bed.specs.model.BedLine.{interval_lines}
 use Rattle.bt_bed.specs.model.Genome.{Entry, genome_names}
 use Rattle.bt_bed.specs.model.Sorted.{Locus}
 use Rattle.bt_bed.specs.calls.Orders.{AreNonEmpty, ArePlaced, AreDistinct}
-use Rattle.bt_bed.specs.calls.Stretches.{IsCovered}
+use Rattle.bt_bed.specs.model.Positions.{IsCovered}
 use Rattle.bt_bed.specs.model.Order.{rank_order}
 use Rattle.bt_runs.specs.calls.Engine.{EngineDef, IsQuiet, ruled}
 use Rattle.bt_runs.specs.model.Gaps.{complement, settled_gaps}

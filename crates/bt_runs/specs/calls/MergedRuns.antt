@@ -2,7 +2,7 @@
 use Rattle.std.specs.Prelude.{ℕ, ◌+◌, ◌-◌, ◌≤◌, List, drop, length}
 use Rattle.bt_bed.specs.model.Feature.{Interval, Span, Feature, intervals_of, last_of}
 use Rattle.bt_bed.specs.calls.Orders.{AreNonEmpty, AreContiguous}
-use Rattle.bt_bed.specs.calls.Stretches.{IsCovered}
+use Rattle.bt_bed.specs.model.Positions.{IsCovered}
 use Rattle.bt_runs.specs.declared.merge.merge_strand.MergeStrand.{MergeStrand}
 use Rattle.bt_runs.specs.model.Merged.{merged_runs, passed_by, StrandRun, strand_runs, settled_strand_runs}
 

@@ -1,7 +1,7 @@
 -- What the plain program is said to do, in the words of the definitions.
 use Rattle.std.specs.Prelude.{ℕ, ◌+◌, ◌-◌, ◌≤◌, cond, ◌==◌, ◌&&◌, List, [], ◌∷◌, map}
 use Rattle.bt_bed.specs.model.Feature.{Span}
-use Rattle.bt_bed.specs.calls.Stretches.{IsCovered}
+use Rattle.bt_bed.specs.model.Positions.{IsCovered}
 use Rattle.bt_bed.specs.model.Levels.{Level}
 
 -- a start and a stop as a span of the definitions

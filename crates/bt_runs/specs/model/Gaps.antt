@@ -6,15 +6,14 @@ use Rattle.std.specs.Option.{option_map_or}
 use Rattle.std.specs.declared.cmp.Ordering.{Ordering}
 use Rattle.std.specs.declared.cmp.Ordering.TheVariants.{Less, Equal, Greater}
 use Rattle.bt_bed.specs.model.Feature.{Feature, intervals_of, Interval, Span, last_of, placed_on, spans_on}
-use Rattle.bt_bed.specs.model.Positions.{stretches_from}
 use Rattle.bt_bed.specs.model.Genome.{Entry, genome_names}
 use Rattle.bt_bed.specs.model.Sorted.{has_records}
 use Rattle.bt_bed.specs.model.Order.{rank_order}
-use Rattle.bt_runs.specs.model.Merged.{is_covered}
+use Rattle.bt_runs.specs.model.Merged.{is_covered, stretches_of}
 
 -- the gaps of a chromosome: the stretches of its bare positions
 unfoldable pub gaps_of : ℕ → List Span → List Span
-gaps_of size spans = stretches_from (λ p. not (is_covered spans p)) 0 size
+gaps_of size spans = stretches_of (λ p. not (is_covered spans p)) size
 
 -- the gaps on a chromosome of the genome file
 abbrev pub gaps_on : List Interval → Entry → List Interval

@@ -1,13 +1,22 @@
 -- What `bedtools merge` gives, with its options.
 use Rattle.std.specs.Prelude.{ℕ, zero, suc, ◌+◌, Bool, false, not, ◌&&◌, ◌||◌, List, [], ◌∷◌, map, filter, flat_map, max, nat_le, nat_lt, bytes_eq, true, Option, Some, None, if◌then◌else◌, ◌++◌}
 use Rattle.bt_bed.specs.model.Feature.{Interval, Span, spans_on, placed_on, Feature, intervals_of, is_strand, last_of}
-use Rattle.bt_bed.specs.model.Positions.{stretches_from}
+use Rattle.bt_bed.specs.model.Positions.{OneSpanList}
+use Rattle.bt_bed.proofs.lemmas.StretchScans.{one_span_list}
 use Rattle.bt_bed.specs.declared.record.strand.Strand.{Strand}
 use Rattle.bt_runs.specs.declared.merge.merge_strand.MergeStrand.{MergeStrand}
 use Rattle.bt_runs.specs.declared.merge.merge_strand.MergeStrand.TheVariants.{All, Each, One}
 use Rattle.std.specs.Ordering.{is_lt}
 use Rattle.bt_bed.specs.model.Order.{Order}
 use Rattle.std.specs.List.{list_any, take_while}
+
+-- the one list of intervals of the positions below a length that pass a test: its type says which list it is, so how it is
+-- found needn't be read
+abbrev pub the_stretches : (test : ℕ → Bool) (size : ℕ) → OneSpanList test size
+the_stretches = one_span_list
+
+abbrev pub stretches_of : (ℕ → Bool) → ℕ → List Span
+stretches_of test size = (the_stretches test size).spans
 
 -- What `bedtools merge` gives: overlapping and touching features become one, and with -d also those
 -- up to a gap apart (bedtools manual, merge).
@@ -36,7 +45,7 @@ end_of (s ∷ ss) = max s.stop (end_of ss)
 
 -- the merged runs of one chromosome: the stretches of the bridged positions
 unfoldable pub runs_of : ℕ → List Span → List Span
-runs_of gap spans = stretches_from (is_bridged gap spans) 0 (end_of spans)
+runs_of gap spans = stretches_of (is_bridged gap spans) (end_of spans)
 
 -- the merged runs on the chromosome of this name
 abbrev pub runs_on : List ℕ → ℕ → List Interval → List Interval

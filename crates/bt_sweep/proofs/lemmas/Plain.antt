@@ -1,7 +1,7 @@
 -- Lemmas on the plain program.
 use Rattle.bt_lines.proofs.Std.{◌≡◌, ◌⊎◌, ℕ, List, [], ◌∷◌, ◌++◌, refl, sym, ap, ◌∙◌, arith, append_assoc, decimal, flat_map, length, ◌+◌, ◌-◌, ◌<◌, ◌≤◌, le-leb, suc, Bool, not, ◌&&◌, ◌||◌, cond, map, list_any, reverse-append}
 use Rattle.bt_bed.specs.model.Feature.{Feature, Span}
-use Rattle.bt_bed.specs.model.Positions.{stretches_from, with_position}
+use Rattle.bt_bed.specs.calls.Stretches.{stretches_from, with_position}
 use Rattle.bt_bed.specs.model.BedLine.{bed_text}
 use Rattle.bt_sweep.specs.model.Hits.{hits_among, hits}
 use Rattle.bt_sweep.specs.model.Lines.{hit_line, line_with, lines_for, piece_line, pieces, has_position, is_left}

@@ -2,7 +2,7 @@
 use Rattle.std.specs.Prelude.{◌≡◌, ℕ, ◌<◌, ◌≤◌, List, map, IsTrue, ◌∷◌, ◌++◌, Option, None, Bool, [], flat_map, true, false}
 use Rattle.bt_lines.specs.model.Fault.{FaultValue}
 use Rattle.bt_bed.specs.model.Feature.{Feature, interval_of, Span, span_of, intervals_of}
-use Rattle.bt_bed.specs.calls.Stretches.{IsCovered, AreStretchesOf}
+use Rattle.bt_bed.specs.model.Positions.{IsCovered, AreStretchesOf}
 use Rattle.bt_bed.specs.calls.Orders.{ArePlaced, IsTotal}
 use Rattle.bt_bed.specs.model.Order.{Order}
 use Rattle.bt_bed.specs.model.Meeting.{join_report}

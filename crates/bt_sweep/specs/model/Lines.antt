@@ -2,7 +2,8 @@
 use Rattle.std.specs.Prelude.{ℕ, Bool, not, ◌&&◌, List, nat_le, nat_lt, [], ◌∷◌, ◌++◌, codes, decimal, flat_map, length, max, min, ◌||◌, Option, is_none, true, false}
 use Rattle.std.specs.List.{list_any}
 use Rattle.bt_bed.specs.model.Feature.{Feature, Span}
-use Rattle.bt_bed.specs.model.Positions.{stretches_from}
+use Rattle.bt_bed.specs.model.Positions.{OneSpanList}
+use Rattle.bt_bed.proofs.lemmas.StretchScans.{one_span_list}
 use Rattle.bt_bed.specs.model.BedLine.{bed_text, cut_to}
 use Rattle.bt_bed.specs.model.Order.{Order}
 use Rattle.bt_sweep.specs.model.Hits.{decided, hits_among, shared_bases}
@@ -23,9 +24,14 @@ has_position p r = nat_le r.start p && nat_lt p r.stop
 abbrev pub is_left : Feature → List Feature → ℕ → Bool
 is_left a others p = nat_le a.start p && not (list_any (has_position p) others)
 
+-- the one list of intervals of the positions below a length that pass a test: its type says which list it is, so how it is
+-- found needn't be read
+abbrev pub the_stretches : (test : ℕ → Bool) (size : ℕ) → OneSpanList test size
+the_stretches = one_span_list
+
 -- the pieces that are left of a: the stretches of those positions
 unfoldable pub pieces : Feature → List Feature → List Span
-pieces a others = stretches_from (is_left a others) 0 a.stop
+pieces a others = (the_stretches (is_left a others) a.stop).spans
 
 -- What intersect and subtract write of a record and of those that hit it (bedtools manual). For
 -- intersect these are the default behaviour and the options -wa, -wb, -wo, -u,

@@ -3,7 +3,7 @@
 ghost use Rattle.std.specs.Prelude.{◌≡◌, ◌+◌, ◌<◌, ◌^◌, ◌&&◌, IfOk, OnOk};
 ghost use Rattle.std.specs.List.{list_any};
 ghost use Rattle.bt_bed.specs.calls.Bed.{feature_lent};
-ghost use Rattle.bt_bed.specs.model.Positions.{with_position};
+ghost use Rattle.bt_bed.specs.calls.Stretches.{with_position};
 ghost use Rattle.bt_sweep.specs.model.Hits.{hits, hits_among};
 ghost use Rattle.bt_sweep.specs.model.Lines.{has_position, is_left, pieces};
 ghost use Rattle.bt_sweep.specs.inside.Pieces.{pieces_in};

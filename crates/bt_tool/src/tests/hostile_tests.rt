@@ -2,7 +2,8 @@
 
 use crate::run;
 use crate::tests::{
-    Answer, answer_of, expect, expect_size, plan_of, run_on, source_if, source_of, whole,
+    Answer, Devices, GENOME, answer_of, expect, expect_size, plan_of, run_on, run_words, source_if,
+    source_of, whole,
 };
 use bt_lines::ScriptSink;
 use std::alloc::{AllocError, Global};
@@ -59,6 +60,44 @@ fn an_alignment_of_a_thousand_operations(rt: HostRuntime) -> Result<(), Fail> {
         b"bedtools bamtobed: a.sam:1: end is too large\n",
     )?;
     check_long(&rt, rt.alloc(), "4", b"")
+}
+
+// A thousand records, each within the one before it.
+fn nested(alloc: Global) -> Result<Vec<u8>, AllocError> {
+    let mut text = Vec::new(alloc);
+    for start in 0..1000_u32 {
+        let line = format!(in alloc; "chr1\t{start}\t{}\n", 10_000 - start)?;
+        text.extend_from_slice(line.as_bytes())?;
+    }
+    Ok(text)
+}
+
+#[test]
+fn nested_records_are_counted(rt: HostRuntime) -> Result<(), Fail> {
+    let second = nested(rt.alloc())?;
+    let devices = Devices {
+        genome: (GENOME, whole(8192)),
+        first: (
+            b"chr1\t0\t10000\nchr1\t9500\t9600\nchr1\t9999\t10000\n",
+            whole(8192),
+        ),
+        second: (second.as_slice(), whole(8192)),
+        out: whole(8192),
+    };
+    let words = &[
+        "intersect",
+        "-a",
+        "a.bed",
+        "-b",
+        "b.bed",
+        "-g",
+        "g.txt",
+        "-c",
+    ];
+    let answer = run_words(rt.alloc(), words, &devices)?;
+    let counts = b"chr1\t0\t10000\t1000\nchr1\t9500\t9600\t500\nchr1\t9999\t10000\t1\n";
+    expect(&rt, &answer, counts, b"", "nested records");
+    Ok(())
 }
 
 // Records that each make a run.

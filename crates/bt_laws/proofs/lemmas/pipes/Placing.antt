@@ -2,7 +2,7 @@
 use Rattle.bt_lines.proofs.Std.{◌≡◌, ℕ, ◌+◌, ◌<◌, ◌≤◌, Bool, false, List, [], ◌∷◌, ◌++◌, map, filter, refl, inl, arith, IsTrue, flat_map, bytes_eq, AllByRecursion, or_parts}
 use Rattle.std.specs.declared.cmp.Ordering.TheVariants.{Less}
 use Rattle.bt_bed.specs.model.Feature.{Interval, Span, placed_on}
-use Rattle.bt_bed.specs.calls.Stretches.{AreApartFrom}
+use Rattle.bt_bed.specs.model.Positions.{AreApartFrom}
 use Rattle.bt_bed.specs.model.Sorted.{locus_of}
 use Rattle.bt_bed.specs.calls.Orders.{ArePlaced, IsUpTo, IsTotal, AreDistinct}
 use Rattle.bt_bed.specs.model.Order.{Order, is_among, rank_order}

@@ -2,13 +2,13 @@
 use Rattle.bt_lines.proofs.Std.{◌≡◌, ℕ, ◌+◌, ◌-◌, ◌<◌, ◌≤◌, Bool, true, false, not, List, [], ◌∷◌, ◌++◌, map, filter, refl, sym, ap, subst, inl, inr, arith, eqb, append-nil, decimal, Option, append_assoc, IsTrue, codes, flat_map, AllByRecursion, map-id, slice_split_none}
 use Rattle.bt_lines.specs.calls.Line.{NoLineFeed}
 use Rattle.bt_bed.specs.model.Feature.{Feature, intervals_of, Interval, Span, placed_on, spans_on}
-use Rattle.bt_bed.specs.model.Positions.{stretches_from}
-use Rattle.bt_bed.specs.calls.Stretches.{IsCovered}
+use Rattle.bt_bed.specs.model.Positions.{IsCovered}
+use Rattle.bt_bed.specs.calls.Stretches.{stretches_from}
 use Rattle.bt_bed.specs.model.BedLine.{is_header, interval_line, interval_lines}
 use Rattle.bt_bed.specs.calls.Features.{IsName}
 use Rattle.bt_bed.specs.calls.Orders.{ArePlaced, IsTotal, AreDistinct}
 use Rattle.bt_bed.specs.model.Order.{Order, rank_order}
-use Rattle.bt_bed.proofs.lemmas.Definitions.{scan_finds}
+use Rattle.bt_bed.proofs.lemmas.StretchScans.{scan_finds}
 use Rattle.bt_runs.specs.model.Merged.{counted, is_counted, chromosomes, end_of, merged, runs_of, runs_on, ordered_names, ordered_runs, StrandRun, places_of, runs_of_strand, strand_runs}
 use Rattle.bt_runs.specs.declared.merge.merge_strand.MergeStrand.{MergeStrand}
 use Rattle.bt_runs.specs.declared.merge.merge_strand.MergeStrand.TheVariants.{One}

@@ -2,7 +2,7 @@
 use Rattle.bt_lines.proofs.Std.{◌≡◌, ℕ, ◌+◌, ◌-◌, ◌<◌, ◌≤◌, true, false, not, List, [], ◌∷◌, ◌++◌, map, filter, length, max, min, refl, sym, ap, ap₂, ◌∙◌, subst, inl, inr, arith, append_assoc, append-nil, decimal, IsTrue, flat_map, AllByRecursion, bytes_decides, flat_map-append, rules, eqb, replicate, ends_with_byte, strip_last, map-append, slice_split_at}
 use Rattle.bt_lines.specs.calls.Line.{NoLineFeed}
 use Rattle.bt_bed.specs.model.Feature.{Feature, interval_of, intervals_of, Interval, Span}
-use Rattle.bt_bed.specs.calls.Stretches.{AreApartFrom, IsCovered}
+use Rattle.bt_bed.specs.model.Positions.{AreApartFrom, IsCovered}
 use Rattle.bt_bed.specs.model.BedLine.{is_header, bed_text, cut_to, kept_columns, strand_named}
 use Rattle.bt_bed.specs.calls.Orders.{ArePlaced, IsTotal}
 use Rattle.bt_bed.specs.model.Order.{Order}

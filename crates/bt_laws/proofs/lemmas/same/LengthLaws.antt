@@ -16,7 +16,7 @@ use Rattle.bt_laws.specs.WholeRuns.{first_records}
 use Rattle.bt_laws.specs.Same.{bg_is_bga_above_0, depth_0_is_complement, without_depth, complement_of_complement, cut_at_length, merge_of_genomecov, LieWithinLengths}
 use Rattle.bt_laws.proofs.lemmas.pipes.PipeLaws.{complement_whole, genomecov_whole, runs_cover, SameCover, covered_some, some_covered, chroms_of, merge_whole}
 use Rattle.bt_laws.proofs.lemmas.same.SameRuns.{fault_as, told_same, CoversOn, alike_merged, all_counted, runs_on_output, some_covers}
-use Rattle.bt_bed.specs.calls.Stretches.{AreApartFrom, IsCovered}
+use Rattle.bt_bed.specs.model.Positions.{AreApartFrom, IsCovered}
 use Rattle.bt_bed.specs.model.BedLine.{is_header, interval_lines}
 use Rattle.bt_bed.specs.calls.Orders.{ArePlaced, AreDistinct}
 use Rattle.bt_bed.specs.model.Order.{Order, is_among, rank_order}

@@ -4,7 +4,7 @@ use Rattle.bt_lines.specs.model.Fault.{FaultValue}
 use Rattle.bt_lines.specs.model.Lines.{Handed, cut_fault, lines_handed, whole_text, TextLine}
 use Rattle.bt_lines.specs.declared.fault.Input.TheVariants.{First, Second}
 use Rattle.bt_bed.specs.model.Feature.{Feature, interval_of, intervals_of, Interval, spans_on}
-use Rattle.bt_bed.specs.calls.Stretches.{IsCovered}
+use Rattle.bt_bed.specs.model.Positions.{IsCovered}
 use Rattle.bt_bed.specs.model.BedLine.{bed_text, interval_lines, record_of}
 use Rattle.bt_bed.specs.model.Genome.{Entry}
 use Rattle.bt_bed.specs.model.Good.{Good, items_in, good, good_from, or_else, bed_good, bed_format, line_says, said_after, good_handed}

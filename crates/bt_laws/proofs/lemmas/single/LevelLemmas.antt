@@ -1,7 +1,7 @@
 -- The intervals of equal value are the one list that has the values; of one value they are stretches; runs and gaps are so too.
 use Rattle.bt_lines.proofs.Std.{◌≡◌, ℕ, ◌+◌, ◌≤◌, inl, inr, List, [], ◌∷◌, refl, sym, ap, ◌∙◌, arith, map, Bool, true, ◌==◌, Some, None, eq-eqb, eqb-true, filter, flat_map, map-append, filter-append, ◌<◌}
 use Rattle.bt_bed.specs.model.Feature.{Span, Feature, intervals_of, Interval, placed_on}
-use Rattle.bt_bed.specs.calls.Stretches.{AreApartFrom, IsCovered}
+use Rattle.bt_bed.specs.model.Positions.{AreApartFrom, IsCovered}
 use Rattle.bt_bed.specs.model.Levels.{AreDisjointFrom, DiffersFromNext, HasValue, Level}
 use Rattle.bt_laws.specs.Runs.{level_on, levels_are, levels_only, stretches_are_levels, covered_have_depth, gaps_are_levels, gaps_have_depth_0, interval_at, is_bare, one_value, touching_runs_are_levels, one_place_is_kept}
 use Rattle.bt_runs.specs.model.Depth.{levels_of, the_levels, DepthInterval, coverage, depth_of, depth_on, depths_on}

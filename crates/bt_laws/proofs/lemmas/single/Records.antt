@@ -16,7 +16,8 @@ use Rattle.bt_bed.specs.model.Sorted.{Locus, sorting_of, has_records}
 use Rattle.bt_bed.specs.calls.Orders.{AreContiguous, AreDistinct}
 use Rattle.bt_lines.proofs.lemmas.reader.lines.TextLemmas.{lines_are_numbered, IsColumn, IsInside}
 use Rattle.bt_bed.proofs.lemmas.read.good.SaidLemmas.{ascend_from, first_from, within_from}
-use Rattle.bt_bed.proofs.lemmas.Definitions.{non_empty_from, met_lines, written_at, stretches_are_same}
+use Rattle.bt_bed.proofs.lemmas.Definitions.{non_empty_from, met_lines, written_at}
+use Rattle.bt_bed.proofs.lemmas.StretchScans.{stretches_are_same}
 use Rattle.bt_bed.specs.calls.Reading.{IsFaultBeyond}
 use Rattle.bt_bed.specs.model.Order.{byte_order}
 use Rattle.bt_bed.specs.model.Genome.{Entry, genome_names, genome_from, genome_with, new_entry, entry_of, with_entry}

@@ -2,7 +2,7 @@ use Rattle.bt_lines.proofs.Std.{refl}
 use Rattle.std.specs.Fmt.{digits}
 use Rattle.bt_lines.specs.model.Lines.{lines_from, value_of}
 use Rattle.bt_bed.specs.model.Good.{good_from, line_says}
-use Rattle.bt_bed.specs.model.Positions.{stretches_from, with_position}
+use Rattle.bt_bed.specs.calls.Stretches.{stretches_from, with_position}
 use Rattle.bt_bed.specs.model.BedLine.{record_of}
 use Rattle.bt_seq.specs.model.Alignment.{alignment_of, fields_say, blocks_of, operations_in}
 use Rattle.bt_sweep.specs.model.Hits.{has_fraction, hits, is_enough, strands_agree}

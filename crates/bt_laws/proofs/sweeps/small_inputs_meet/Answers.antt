@@ -1,6 +1,6 @@
 use Rattle.bt_lines.proofs.Std.{refl}
 use Rattle.std.specs.Fmt.{digits}
-use Rattle.bt_bed.specs.model.Positions.{stretches_from, with_position}
+use Rattle.bt_bed.specs.calls.Stretches.{stretches_from, with_position}
 use Rattle.bt_sweep.specs.model.Hits.{has_fraction, hits, is_enough, strands_agree}
 use Rattle.bt_sweep.specs.model.Lines.{lines_for, pieces}
 use Rattle.bt_laws.proofs.sweeps.small_inputs_meet.Goals as goal

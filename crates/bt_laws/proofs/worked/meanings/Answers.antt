@@ -1,7 +1,7 @@
 use Rattle.bt_lines.proofs.Std.{refl}
 use Rattle.bt_bed.specs.model.BedLine.{record_of}
 use Rattle.bt_bed.specs.model.Good.{good_from, line_says}
-use Rattle.bt_bed.specs.model.Positions.{with_position}
+use Rattle.bt_bed.specs.calls.Stretches.{with_position}
 use Rattle.bt_lines.specs.model.Lines.{lines_from, value_of}
 use Rattle.bt_sweep.specs.model.Hits.{has_fraction, hits, is_enough, strands_agree}
 use Rattle.bt_sweep.specs.model.Lines.{lines_for}

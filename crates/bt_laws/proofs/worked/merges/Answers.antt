@@ -2,7 +2,7 @@ use Rattle.bt_lines.proofs.Std.{refl}
 use Rattle.bt_bed.specs.model.BedLine.{record_of}
 use Rattle.bt_bed.specs.model.Genome.{entry_of, genome_from}
 use Rattle.bt_bed.specs.model.Good.{good_from, line_says}
-use Rattle.bt_bed.specs.model.Positions.{stretches_from, with_position}
+use Rattle.bt_bed.specs.calls.Stretches.{stretches_from, with_position}
 use Rattle.bt_lines.specs.model.Lines.{lines_from, value_of}
 use Rattle.bt_runs.specs.model.Merged.{is_bridged, merged, ordered_runs, runs_of, settled_strand_runs, strand_runs}
 use Rattle.bt_tool.specs.model.Report.{report_of}

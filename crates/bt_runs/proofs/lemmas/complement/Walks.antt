@@ -1,7 +1,7 @@
 -- An engine that goes through the chromosomes of a genome file. One more record moves what is settled and what is reached as its walk's step says. At the end what its walk leaves is left. Complement and coverage are such engines; `GapRuleLemmas` and `DepthSteps` have what each owes of one chromosome.
 use Rattle.bt_lines.proofs.Std.{common_steps, ◌≡◌, ℕ, ◌+◌, ◌≤◌, inl, inr, List, [], ◌∷◌, ◌++◌, refl, sym, ap, ap₂, ◌∙◌, subst, arith, append-nil, append_assoc, flat_map, length, length-append, slice_range, true, false, Option, Some, None, not, Decides, ◌<◌, max, min, cond, nat_lt, Decides-not, ⊤, drop_at, take_at}
 use Rattle.bt_bed.specs.model.Feature.{Feature, interval_of, intervals_of, Interval, Span}
-use Rattle.bt_bed.specs.calls.Stretches.{IsCovered, AreApartFrom, AreStretchesOf}
+use Rattle.bt_bed.specs.model.Positions.{IsCovered, AreApartFrom, AreStretchesOf}
 use Rattle.bt_bed.specs.model.Genome.{Entry, genome_names}
 use Rattle.bt_bed.specs.model.Order.{rank_of}
 use Rattle.bt_bed.specs.calls.Orders.{AreDistinct}
@@ -13,7 +13,7 @@ use Rattle.bt_runs.specs.inside.Walk.{AreReached, Place, Walk, entry_at, going, 
 use Rattle.bt_runs.proofs.lemmas.order.ByChromosome.{Begun, Form, InOrder, Moves, Owes, Standing, Written, begun, full_last, goes_first, goes_next, goes_on, goes_to, order_front, settling, whole_left, entry_there, name_at}
 use Rattle.bt_runs.proofs.lemmas.definitions.Standing.{GoesTo, begins_at, last_rank}
 use Rattle.bt_runs.specs.model.Merged.{is_covered, end_of}
-use Rattle.bt_bed.proofs.lemmas.Definitions.{stretches_are_same, scan_finds}
+use Rattle.bt_bed.proofs.lemmas.StretchScans.{stretches_are_same, scan_finds}
 use Rattle.bt_runs.proofs.lemmas.merge.Bridging.{is_covered-Decides, covered_left, covered_parts, covered_right}
 
 -- what such an engine says of its items: how it walks, and what else its `Form` has

@@ -1,7 +1,7 @@
 -- What the plain programs ask of their spans, and the scans of a chromosome's positions, against the definitions of runs and gaps.
 use Rattle.bt_lines.proofs.Std.{◌≡◌, ℕ, ◌+◌, ◌-◌, ◌<◌, ◌≤◌, ◌⊎◌, inl, inr, List, [], ◌∷◌, ◌++◌, append_assoc, refl, sym, ap, ◌∙◌, arith, Bool, true, false, ◌&&◌, Decides, nat_le, nat_lt, All, list_any, false≢true, cases_lt, subst, Decides-and, Decides-or, Decides-ltb, map-append, All-head, All-tail}
 use Rattle.bt_bed.specs.model.Feature.{Span}
-use Rattle.bt_bed.specs.calls.Stretches.{IsCovered, AreApartFrom, AreStretchesOf}
+use Rattle.bt_bed.specs.model.Positions.{IsCovered, AreApartFrom, AreStretchesOf}
 use Rattle.bt_runs.specs.model.Gaps.{gaps_of}
 use Rattle.bt_runs.specs.model.Merged.{runs_of}
 use Rattle.bt_runs.proofs.lemmas.complement.Walks.{only_gaps}

@@ -3,10 +3,10 @@
 -- What two lists of spans together cover comes first.
 use Rattle.bt_lines.proofs.Std.{ℕ, ◌<◌, ◌≤◌, ◌⊎◌, inl, inr, List, [], ◌∷◌, ◌++◌, ◌≡◌, ◌+◌, ◌-◌, refl, arith, Bool, ◌&&◌, Decides, nat_le, nat_lt, leb-true, le-leb, max, false≢true, cases_lt, Decides-and, Decides-or, Decides-ltb, Decides-like, Decides-below_or}
 use Rattle.bt_bed.specs.model.Feature.{Span}
-use Rattle.bt_bed.specs.calls.Stretches.{AreStretchesOf, IsCovered, AreApartFrom}
+use Rattle.bt_bed.specs.model.Positions.{AreStretchesOf, IsCovered, AreApartFrom}
 use Rattle.bt_runs.specs.model.Merged.{some_below, is_covered, is_bridged, end_of, runs_of}
 use Rattle.bt_runs.specs.calls.MergedRuns.{Bridged}
-use Rattle.bt_bed.proofs.lemmas.Definitions.{IsWithin, covered_from, stretches_are_same, scan_finds}
+use Rattle.bt_bed.proofs.lemmas.StretchScans.{IsWithin, covered_from, stretches_are_same, scan_finds}
 
 pub covered_left : (xs ys : List Span) (p : ℕ) → IsCovered xs p → IsCovered (xs ++ ys) p
 covered_left [] ys p c = absurd c

@@ -1,7 +1,7 @@
 -- The records of one chromosome, and the names of the chromosomes that have some, in a past that grows at its end.
 use Rattle.bt_lines.proofs.Std.{◌≡◌, ℕ, inl, inr, List, [], ◌∷◌, ◌++◌, append-nil, refl, sym, ap, ◌∙◌, map, false, not, ◌||◌, bytes_eq, cond-true, cond-false, or_parts, not_from_true, not_from_false, suc, ◌<◌, ◌≤◌, ◌⊎◌, subst, arith, filter, Bool, true, Option, Some, option_map, or_from, is_some}
 use Rattle.bt_bed.specs.model.Feature.{Interval, span_of, placed_on, spans_on, Feature, interval_of, intervals_of}
-use Rattle.bt_bed.specs.model.Positions.{stretches_from}
+use Rattle.bt_bed.specs.calls.Stretches.{stretches_from}
 use Rattle.bt_bed.specs.model.Order.{is_among, Order, rank_of, compare_ranks, rank_order}
 use Rattle.bt_bed.specs.calls.Orders.{IsTotal, AreDistinct, IsPlacedBefore, ArePlaced, AreContiguous}
 use Rattle.bt_bed.specs.model.Sorted.{has_records}

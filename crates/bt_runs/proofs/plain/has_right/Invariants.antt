@@ -1,5 +1,5 @@
 use Rattle.bt_lines.proofs.Std.{ℕ, ◌+◌, ◌-◌, ◌<◌, ◌≤◌}
-use Rattle.bt_bed.specs.calls.Stretches.{IsCovered}
+use Rattle.bt_bed.specs.model.Positions.{IsCovered}
 use Rattle.bt_runs.specs.inside.PlainRuns.{spans_in}
 use Rattle.bt_runs.proofs.plain.has_right.Given as goal
 

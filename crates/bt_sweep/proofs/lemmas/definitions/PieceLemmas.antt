@@ -2,13 +2,13 @@
 use Rattle.bt_lines.proofs.Std.{rules}
 use Rattle.bt_lines.proofs.Std.{◌≡◌, ℕ, ◌≤◌, inl, inr, Bool, true, cond, List, [], ◌∷◌, refl, sym, ◌∙◌, ltb, arith, filter, bytes_eq, and_parts, ◌<◌, ◌++◌, ap, append_assoc, flat_map, max, Decides, list_any, false≢true}
 use Rattle.bt_bed.specs.model.Feature.{Feature, intervals_of, Span}
-use Rattle.bt_bed.specs.calls.Stretches.{AreApartFrom, IsCovered}
+use Rattle.bt_bed.specs.model.Positions.{AreApartFrom, IsCovered}
 use Rattle.bt_bed.specs.calls.Orders.{ArePlaced, IsTotal}
 use Rattle.bt_bed.specs.model.Order.{Order}
 use Rattle.bt_bed.proofs.lemmas.parse.NameLemmas.{same_name}
 use Rattle.bt_sweep.specs.calls.Held.{AreRising, AreRisingFrom}
 use Rattle.bt_sweep.specs.calls.Sweeping.{is_held}
-use Rattle.bt_bed.proofs.lemmas.Definitions.{stretches_are_same, scan_finds}
+use Rattle.bt_bed.proofs.lemmas.StretchScans.{stretches_are_same, scan_finds}
 use Rattle.bt_sweep.specs.model.Hits.{hits, hits_among}
 use Rattle.bt_sweep.specs.model.Lines.{piece_line, has_position, is_left, pieces}
 use Rattle.bt_sweep.specs.calls.LineLaws.{IsLeft, pieces_are, pieces_only, spans_of}

@@ -50,7 +50,7 @@ invariant_of-result c =
     let said = made_is_feature _ _ _ _ _ _ _ _ cut (c.in_ok-start.ensures _)
     (c.kept_strand-strand.ensures ∙ ap (λ (l : List ℕ). strand_of (columns_in l))
     (sym c.behind-rest.ensures)) c.behind-rest.ensures in
-    record { named = said.named; non_empty = said.non_empty; in_range = said.in_range; kept = said.kept; stranded = said.stranded }
+    record { non_empty = said.non_empty; in_range = said.in_range; kept = said.kept }
 
 pub returns-clause-said : goal.returns-clause-said
 returns-clause-said c =

@@ -1,5 +1,5 @@
 use Rattle.bt_laws.proofs.lemmas.single.Records.{one_list, common_bases}
-use Rattle.bt_bed.proofs.lemmas.Definitions.{scan_finds}
+use Rattle.bt_bed.proofs.lemmas.StretchScans.{scan_finds}
 use Rattle.bt_laws.proofs.records.features.intervals_are_sets_of_bases.Goals as goal
 
 pub returns-clause-one : goal.returns-clause-one

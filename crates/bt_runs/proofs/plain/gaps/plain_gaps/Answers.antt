@@ -1,5 +1,5 @@
 use Rattle.bt_lines.proofs.Std.{arith, ◌≡◌, subst}
-use Rattle.bt_bed.specs.calls.Stretches.{IsCovered}
+use Rattle.bt_bed.specs.model.Positions.{IsCovered}
 use Rattle.bt_runs.specs.inside.PlainRuns.{spans_in}
 use Rattle.bt_runs.proofs.lemmas.definitions.PlainSpans.{AreBelow, bare_at_false, below_with, below_without, covered_at_true, gaps_below}
 use Rattle.bt_runs.proofs.plain.gaps.plain_gaps.Goals as goal

@@ -1,4 +1,4 @@
-use Rattle.bt_bed.specs.calls.Stretches.{IsCovered}
+use Rattle.bt_bed.specs.model.Positions.{IsCovered}
 use Rattle.bt_runs.specs.inside.PlainRuns.{spans_in}
 use Rattle.bt_runs.proofs.lemmas.definitions.PlainSpans.{AreBelow}
 use Rattle.bt_runs.proofs.plain.gaps.plain_gaps.Given as goal

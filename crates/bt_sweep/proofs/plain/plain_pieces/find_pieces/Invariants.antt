@@ -1,6 +1,6 @@
 use Rattle.bt_lines.proofs.Std.{◌≡◌, ◌-◌}
 use Rattle.bt_bed.specs.calls.Bed.{feature_lent}
-use Rattle.bt_bed.specs.model.Positions.{stretches_from}
+use Rattle.bt_bed.specs.calls.Stretches.{stretches_from}
 use Rattle.bt_sweep.specs.model.Hits.{hits_among}
 use Rattle.bt_sweep.specs.model.Lines.{is_left}
 use Rattle.bt_sweep.specs.inside.Pieces.{pieces_in}
