@@ -59,6 +59,7 @@ abbrev pub output_sink : Sink Output
 output_sink = record {
   took = λ _. None;
   has_failed = output_has_failed;
+  last_failed = output_has_failed;
   is_flushed = output_is_flushed;
 }
 

@@ -37,6 +37,8 @@ impl Sink for Output {
 
     ghost has_failed = { output_has_failed };
 
+    ghost last_failed = { output_has_failed };
+
     ghost is_flushed = { output_is_flushed };
 
     fn write(&mut self, bytes: &[u8]) -> Result<usize, DeviceFailed> {

@@ -1,7 +1,7 @@
 -- Lemmas on writing.
 use Rattle.bt_lines.proofs.Std.{rules, ◌≡◌, ℕ, ◌+◌, ◌-◌, ◌*◌, ◌/◌, ◌≤◌, List, [], ◌∷◌, ◌++◌, set, slice_index, length, take, drop, refl, sym, ap, ◌∙◌, append_assoc, arith, length-append, length-take-le, take-add, take-take, take_all, length-chunk, length-put_chunk, take_more_put_chunk, take-put_mid, chunk, put_chunk, Option, None, Some, take-append-drop, Appends-trans, Appends, Keeps, append_known, Bool, Result, Ok, Err, true, false, append-nil, OnOk, OnErr, IfErr, IsErr, flat_map, flat_map-append, Appends-nil, ◌^◌, ◌<◌, decimal, length-decimal-le, drop-set, drop_at, length-drop, take-append-le, take_at}
 use borrow.Rule.Slice.PartMut.{put_mid}
-use Rattle.bt_lines.specs.calls.Output.{IsPrefixOf, Grows, HoldsBlock, block_size, Output, WorksAsBefore, PutsAll, FailsToPut, Puts, Grown, FailsToAdd, Adds, span_text}
+use Rattle.bt_lines.specs.calls.Output.{IsPrefixOf, Grows, HoldsBlock, block_size, Output, WorksAsBefore, PutsAll, FailsToPut, Puts, Grown, FailsToAdd, Adds, span_text, SinkFailed}
 use Rattle.bt_lines.specs.model.Fault.{FaultValue}
 use Rattle.bt_lines.specs.calls.Faults.{write_failed}
 use Rattle.bt_lines.specs.calls.Names.{fault_value}
@@ -131,18 +131,19 @@ puts_more old mid new xs ys (Err fault) p q = fails_behind old mid new xs ys (fa
 pub puts_from : {A : Type 0} (old new : Output) (bytes : List ℕ) (r : Result A Fault)
     → OnOk r (Appends old.put new.put bytes) → OnOk r (HoldsBlock new.took new.put) → OnErr r (IsPrefixOf new.took old.put bytes) → Grows old.took new.took
     → OnOk r ((new.has_failed ≡ false) × (old.has_failed ≡ false) × (new.sink_has_failed ≡ old.sink_has_failed))
-    → IfErr r (λ fault. fault_value fault ≡ write_failed) → OnErr r ((new.has_failed ≡ true) × (new.sink_has_failed ≡ true))
+    → IfErr r (λ fault. fault_value fault ≡ write_failed) → OnErr r ((new.has_failed ≡ true) × SinkFailed new)
     → (old.has_failed ≡ true → IsErr r × (new ≡ old)) → Puts old bytes r new
 puts_from old new bytes r p b f g s w c a = grind arith
 
 -- bytes are held back
-module _ (took : Option (List ℕ)) (failed sink_failed flushed : Bool) where
+module _ (took : Option (List ℕ)) (failed sink_failed last_failed flushed : Bool) where
   abbrev holding : List ℕ → Output
   holding held = record {
     put = append_known took held;
     took = took;
     has_failed = failed;
     sink_has_failed = sink_failed;
+    sink_last_failed = last_failed;
     sink_is_flushed = flushed;
   }
 

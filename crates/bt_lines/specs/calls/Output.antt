@@ -18,6 +18,8 @@ pub record Output : Type 0 where
   pub took : Option (List ℕ)
   pub has_failed : Bool
   pub sink_has_failed : Bool
+  -- whether the sink's last call failed
+  pub sink_last_failed : Bool
   -- whether the sink has passed on all that it took
   pub sink_is_flushed : Bool
 
@@ -25,6 +27,11 @@ pub record Output : Type 0 where
 pub record OutputOver (K : Type 0) : Type 0 where
   pub output : Output
   pub sink : K
+
+-- The sink has failed, and its last call is one that did: after a failed write nothing more was
+-- written, and nothing was flushed.
+abbrev pub SinkFailed : Output → Type 0
+SinkFailed output = (output.sink_has_failed ≡ true) × (output.sink_last_failed ≡ true)
 
 -- what was put and what was taken differ by at most a block, held back
 abbrev pub HoldsBlock : Option (List ℕ) → Option (List ℕ) → Type 0
@@ -65,7 +72,7 @@ pub record FailsToPut (old : Output) (bytes : List ℕ) (fault : FaultValue) (ne
   pub front : IsPrefixOf new.took old.put bytes
   pub grows : Grows old.took new.took
   pub failed : new.has_failed ≡ true
-  pub sink_failed : new.sink_has_failed ≡ true
+  pub sink_failed : SinkFailed new
   pub again : old.has_failed ≡ true → new ≡ old
 
 -- what a call that puts these bytes does to an output

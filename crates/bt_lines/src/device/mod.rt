@@ -5,7 +5,7 @@ pub(crate) mod script_sink;
 pub(crate) mod script_source;
 pub(crate) mod to_write;
 
-ghost use Rattle.std.specs.Prelude.{◌≡◌, ℕ, ◌<◌, ◌≤◌, Bool, true, false, Option, Some, None, List, length, IfNone, IfSome, IfOk, OnOk, OnErr};
+ghost use Rattle.std.specs.Prelude.{◌≡◌, ℕ, ◌<◌, ◌≤◌, Bool, true, false, Option, Some, None, List, is_err, length, IfNone, IfSome, IfOk, OnOk, OnErr};
 ghost use Rattle.std.specs.Io.KnownBytes.{Keeps, ReadConsumes, WriteAppends};
 ghost use Rattle.bt_lines.specs.calls.Device.{TellsEnd, call_of, is_spent, let_through};
 
@@ -55,6 +55,9 @@ pub trait Sink {
     // Whether a write or a flush has failed.
     ghost has_failed: { Self → Bool };
 
+    // Whether the last call, a write or a flush, failed.
+    ghost last_failed: { Self → Bool };
+
     // Whether it has passed on all that it took, by a flush at the latest.
     ghost is_flushed: { Self → Bool };
 
@@ -65,14 +68,16 @@ pub trait Sink {
         ensures progress { IfOk result (λ n. 0 < length bytes.now → 0 < n) }
         ensures bytes { WriteAppends (took self.old) (took self.new) result bytes.now }
         ensures served { OnOk result (has_failed self.new ≡ has_failed self.old) }
-        ensures failed { OnErr result (has_failed self.new ≡ true) };
+        ensures failed { OnErr result (has_failed self.new ≡ true) }
+        ensures last { last_failed self.new ≡ is_err result };
 
     /// Passes on what it may still hold back.
     fn flush(&mut self) -> Result<(), DeviceFailed>
         ensures bytes { Keeps (took self.old) (took self.new) }
         ensures flushed { OnOk result (is_flushed self.new ≡ true) }
         ensures served { OnOk result (has_failed self.new ≡ has_failed self.old) }
-        ensures failed { OnErr result (has_failed self.new ≡ true) };
+        ensures failed { OnErr result (has_failed self.new ≡ true) }
+        ensures last { last_failed self.new ≡ is_err result };
 
     /// Whether a write or a flush has failed. Once true, it stays so.
     fn failed(&self) -> bool

@@ -1,6 +1,6 @@
 //! A sink that plays a script, for tests.
 
-ghost use Rattle.std.specs.Prelude.{◌≡◌, ℕ, ◌+◌, ◌<◌, ◌≤◌, ◌++◌, [], IsTrue, IsErr, IsOk, length, IfOk, OnOk, OnErr, Some, true, false, take, min};
+ghost use Rattle.std.specs.Prelude.{◌≡◌, ℕ, ◌+◌, ◌<◌, ◌≤◌, ◌++◌, [], IsTrue, IsErr, IsOk, is_err, length, IfOk, OnOk, OnErr, Some, true, false, take, min};
 ghost use Rattle.std.specs.Io.KnownBytes.{Keeps, WriteAppends};
 ghost use Rattle.bt_lines.specs.calls.Device.{is_spent, let_through};
 
@@ -65,6 +65,8 @@ impl Sink for ScriptSink {
 
     ghost has_failed = { λ s. s.has_failed };
 
+    ghost last_failed = { λ s. s.has_failed };
+
     ghost is_flushed = { λ _. true };
 
     fn write(&mut self, bytes: &[u8]) -> Result<usize, DeviceFailed>
@@ -73,6 +75,7 @@ impl Sink for ScriptSink {
         ensures bytes { WriteAppends (Some self.old.taken) (Some self.new.taken) result bytes.now }
         ensures served { OnOk result (self.new.has_failed ≡ self.old.has_failed) }
         ensures failed { OnErr result (self.new.has_failed ≡ true) }
+        ensures last { self.new.has_failed ≡ is_err result }
 
         ensures count { IfOk result (λ n. 0 < length bytes.now
             → n ≡ let_through self.old.good (length self.old.taken) (min self.old.step (length bytes.now))) }
@@ -104,6 +107,7 @@ impl Sink for ScriptSink {
         ensures bytes { Keeps (Some self.old.taken) (Some self.new.taken) }
         ensures served { OnOk result (self.new.has_failed ≡ self.old.has_failed) }
         ensures failed { OnErr result (self.new.has_failed ≡ true) }
+        ensures last { self.new.has_failed ≡ is_err result }
         ensures only_after { OnErr result (self.old.has_failed ≡ true) }
         ensures for_good { IsTrue self.old.has_failed → IsErr result }
         ensures unchanged { self.new ≡ self.old }

@@ -1,6 +1,6 @@
 //! A writer of std as a sink.
 
-ghost use Rattle.std.specs.Prelude.{◌≡◌, ℕ, ◌<◌, ◌≤◌, false, true, IsTrue, IsErr, length, IfOk, OnOk, OnErr};
+ghost use Rattle.std.specs.Prelude.{◌≡◌, ℕ, ◌<◌, ◌≤◌, false, true, IsTrue, IsErr, is_err, length, IfOk, OnOk, OnErr};
 ghost use Rattle.std.specs.Io.KnownBytes.{Keeps, WriteAppends};
 ghost use Rattle.bt_lines.specs.calls.Device.{writer_of, write_has_failed, write_is_flushed};
 
@@ -47,6 +47,9 @@ impl<W: Write> Sink for ToWrite<W> {
 
     ghost has_failed = { write_has_failed };
 
+    // Once it has failed, each call fails.
+    ghost last_failed = { write_has_failed };
+
     ghost is_flushed = { write_is_flushed };
 
     fn write(&mut self, bytes: &[u8]) -> Result<usize, DeviceFailed>
@@ -56,6 +59,7 @@ impl<W: Write> Sink for ToWrite<W> {
             (W.contents (writer_of self.new)) result bytes.now }
         ensures served { OnOk result (write_has_failed self.new ≡ write_has_failed self.old) }
         ensures failed { OnErr result (write_has_failed self.new ≡ true) }
+        ensures last { write_has_failed self.new ≡ is_err result }
         ensures for_good { IsTrue (write_has_failed self.old)
             → IsErr result × (self.new ≡ self.old) }
         ensures unflushed { write_has_failed self.old ≡ false
@@ -79,6 +83,7 @@ impl<W: Write> Sink for ToWrite<W> {
         ensures flushed { OnOk result (write_is_flushed self.new ≡ true) }
         ensures served { OnOk result (write_has_failed self.new ≡ write_has_failed self.old) }
         ensures failed { OnErr result (write_has_failed self.new ≡ true) }
+        ensures last { write_has_failed self.new ≡ is_err result }
         ensures for_good { IsTrue (write_has_failed self.old)
             → IsErr result × (self.new ≡ self.old) }
     {

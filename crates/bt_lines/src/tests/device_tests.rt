@@ -271,9 +271,14 @@ impl Sink for FlushFails {
 
     ghost has_failed = { λ s. s.has_failed };
 
+    ghost last_failed = { λ s. s.has_failed };
+
     ghost is_flushed = { λ _. true };
 
     fn write(&mut self, bytes: &[u8]) -> Result<usize, DeviceFailed> {
+        if self.has_failed {
+            return Err(DeviceFailed);
+        }
         Ok(bytes.len())
     }
 

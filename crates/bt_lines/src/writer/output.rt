@@ -2,7 +2,7 @@
 
 ghost use Rattle.std.specs.Prelude.{◌≡◌, ◌++◌, ◌+◌, ◌%◌, ℕ, ◌≤◌, ◌<◌, false, true, List, [], length, OnOk, OnErr, IfErr, IsErr, Some, None};
 ghost use Rattle.std.specs.Io.KnownBytes.{Appends, Keeps, append_known};
-ghost use Rattle.bt_lines.specs.calls.Output.{HoldsBlock, IsPrefixOf, Grows, block_size, PutsAll, span_text};
+ghost use Rattle.bt_lines.specs.calls.Output.{HoldsBlock, IsPrefixOf, Grows, SinkFailed, block_size, PutsAll, span_text};
 ghost use Rattle.bt_lines.specs.calls.Faults.{write_failed};
 ghost use Rattle.bt_lines.specs.calls.Names.{fault_value};
 
@@ -39,12 +39,14 @@ impl<K: Sink> Model for Out<K> {
         took = K.took o.sink;
         has_failed = o.has_failed;
         sink_has_failed = K.has_failed o.sink;
+        sink_last_failed = K.last_failed o.sink;
         sink_is_flushed = K.is_flushed o.sink;
       };
       sink = o.sink;
     } };
 
-    ghost invariant = { λ o. o.has_failed ≡ true → K.has_failed o.sink ≡ true };
+    ghost invariant = { λ o. o.has_failed ≡ true
+        → (K.has_failed o.sink ≡ true) × (K.last_failed o.sink ≡ true) };
 }
 
 impl<K: Sink> Out<K> {
@@ -56,6 +58,7 @@ impl<K: Sink> Out<K> {
             took = K.took sink;
             has_failed = false;
             sink_has_failed = K.has_failed sink;
+            sink_last_failed = K.last_failed sink;
             sink_is_flushed = K.is_flushed sink;
           };
           sink = sink;
@@ -81,7 +84,7 @@ impl<K: Sink> Out<K> {
             × (self.new.output.sink_has_failed ≡ self.old.output.sink_has_failed)) }
         ensures fault { IfErr result (λ fault. fault_value fault ≡ write_failed) }
         ensures cause { OnErr result ((self.new.output.has_failed ≡ true)
-            × (self.new.output.sink_has_failed ≡ true)) }
+            × SinkFailed self.new.output) }
         ensures again { self.old.output.has_failed ≡ true → IsErr result × (self.new.output ≡ self.old.output) }
         ensures unasked { self.old.output.has_failed ≡ true → self.new.sink ≡ self.old.sink }
     {
@@ -163,7 +166,7 @@ impl<K: Sink> Out<K> {
             × (self.new.output.sink_has_failed ≡ self.old.output.sink_has_failed)) }
         ensures fault { IfErr result (λ fault. fault_value fault ≡ write_failed) }
         ensures cause { OnErr result ((self.new.output.has_failed ≡ true)
-            × (self.new.output.sink_has_failed ≡ true)) }
+            × SinkFailed self.new.output) }
         ensures again { self.old.output.has_failed ≡ true → IsErr result × (self.new.output ≡ self.old.output) }
         ensures unasked { self.old.output.has_failed ≡ true → self.new.sink ≡ self.old.sink }
     {
@@ -182,6 +185,7 @@ impl<K: Sink> Out<K> {
         ensures sink { result ≡ self.sink }
         ensures took { K.took result ≡ self.output.took }
         ensures failed { K.has_failed result ≡ self.output.sink_has_failed }
+        ensures last { K.last_failed result ≡ self.output.sink_last_failed }
         ensures flushed { K.is_flushed result ≡ self.output.sink_is_flushed }
     {
         let Out { sink, .. } = self;
@@ -209,7 +213,7 @@ fn put_blocks<K: Sink>(
         (IsPrefixOf (K.took sink.new) (append_known (K.took sink.old) held.old) piece.now) }
     ensures grows { Grows (K.took sink.old) (K.took sink.new) }
     ensures served { OnOk result (K.has_failed sink.new ≡ K.has_failed sink.old) }
-    ensures failed { OnErr result (K.has_failed sink.new ≡ true) }
+    ensures failed { OnErr result ((K.has_failed sink.new ≡ true) × (K.last_failed sink.new ≡ true)) }
 {
     let room = held.room();
     held.append(&piece[..room]);
@@ -228,7 +232,7 @@ fn send<K: Sink>(sink: &mut K, held: &mut WriteBuffer) -> Result<(), DeviceFaile
     ensures front { OnErr result (IsPrefixOf (K.took sink.new) (K.took sink.old) held.old) }
     ensures grows { Grows (K.took sink.old) (K.took sink.new) }
     ensures served { OnOk result (K.has_failed sink.new ≡ K.has_failed sink.old) }
-    ensures failed { OnErr result (K.has_failed sink.new ≡ true) }
+    ensures failed { OnErr result ((K.has_failed sink.new ≡ true) × (K.last_failed sink.new ≡ true)) }
 {
     let sent = write_whole(sink, held.as_slice());
     held.clear();
@@ -242,7 +246,7 @@ fn write_whole<K: Sink>(sink: &mut K, piece: &[u8]) -> Result<(), DeviceFailed>
     ensures front { OnErr result (IsPrefixOf (K.took sink.new) (K.took sink.old) piece.now) }
     ensures grows { Grows (K.took sink.old) (K.took sink.new) }
     ensures served { OnOk result (K.has_failed sink.new ≡ K.has_failed sink.old) }
-    ensures failed { OnErr result (K.has_failed sink.new ≡ true) }
+    ensures failed { OnErr result ((K.has_failed sink.new ≡ true) × (K.last_failed sink.new ≡ true)) }
 {
     let mut rest = piece;
     while !rest.is_empty() {

@@ -3,7 +3,7 @@ use Rattle.std.specs.Prelude.{◌≡◌, ℕ, ◌≤◌, ◌⊎◌, true, List, 
 use Rattle.bt_lines.specs.model.Fault.{FaultValue}
 use Rattle.bt_lines.specs.calls.Faults.{no_memory, write_failed}
 use Rattle.bt_lines.specs.calls.Names.{fault_value}
-use Rattle.bt_lines.specs.calls.Output.{Output, Grows, WorksAsBefore, PutsRest, CutsRest}
+use Rattle.bt_lines.specs.calls.Output.{Output, Grows, WorksAsBefore, PutsRest, CutsRest, SinkFailed}
 use Rattle.bt_lines.specs.declared.fault.Fault.{Fault}
 use Rattle.bt_bed.specs.model.Feature.{Feature}
 use Rattle.bt_bed.specs.declared.read.cursor.Cursor.{Ghosts as Cursor}
@@ -97,7 +97,7 @@ module _ {E : Type 0} (engine : EngineDef E) where
       pub cuts : AfterEach engine old r (λ first past.
           CutsRest (engine.settled first past) (engine.settled first (past ++ r ∷ [])) out grown)
       pub failed : grown.has_failed ≡ true
-      pub sink_failed : grown.sink_has_failed ≡ true
+      pub sink_failed : SinkFailed grown
 
     -- what is kept couldn't grow
     pub record CannotGrow (answer : FaultValue) (new : E) (grown : Output) : Type 0 where
@@ -221,7 +221,7 @@ module _ {E : Type 0} (engine : EngineDef E) where
       pub cuts : AtEnd engine last (λ first past.
           CutsRest (engine.settled first past) (engine.output first past) out grown)
       pub failed : grown.has_failed ≡ true
-      pub sink_failed : grown.sink_has_failed ≡ true
+      pub sink_failed : SinkFailed grown
 
     -- the fault that was returned before is returned again, and nothing happens
     pub record RepeatsAtEnd (answer : FaultValue) (grown : Output) : Type 0 where

@@ -66,10 +66,10 @@ TellsInputIf device Kinds input (Some before) (Some after) fault =
     TellsInput device Kinds input before after fault
 TellsInputIf device Kinds input _ _ fault = ⊥
 
--- a fault of the output, reported only if the sink failed, or of memory
-abbrev pub TellsDevice : Bool → FaultValue → Type 0
-TellsDevice sink_failed fault =
-    ((fault ≡ write_failed) × (sink_failed ≡ true)) ⊎ (fault ≡ no_memory)
+-- a fault of the output, reported only if the sink failed and its last call is one that did, or of memory
+abbrev pub TellsDevice : Bool → Bool → FaultValue → Type 0
+TellsDevice sink_failed last_failed fault =
+    ((fault ≡ write_failed) × (sink_failed ≡ true) × (last_failed ≡ true)) ⊎ (fault ≡ no_memory)
 
 -- the bytes put are known, and at least this many
 abbrev pub IsPutTo : ℕ → Option (List ℕ) → Type 0
@@ -219,7 +219,7 @@ module _ {A B : Type 0} (source_a : Source A) (source_b : Source B) (behaviour :
     pub named : (told : FaultValue) → fault ≡ Some told
         → (TellsInput source_a behaviour.FirstKinds First first first_after told
         ⊎ TellsInputIf source_b behaviour.SecondKinds Second second second_after told)
-        ⊎ TellsDevice grown.sink_has_failed told
+        ⊎ TellsDevice grown.sink_has_failed grown.sink_last_failed told
 
   -- a run writes so, and its reads went so
   pub record RunsBy (first : A) (second : Option B) (out : Output) (fault : Option FaultValue)
@@ -332,13 +332,13 @@ module _ {G A B K : Type 0} (source_g : Source G) (source_a : Source A) (source_
         ⊎ ((table : Option GenomeTable) × KnowsChromosomes source_g genome genome_after table)
     -- What the fault may be, whatever the devices do. It is one that a line of an input can have (without
     -- a genome file none of it, and no unknown chromosome). Or it is a failed read, only if its source
-    -- failed or may have passed the bound; a failed write, only if the sink failed; or running out of
-    -- memory. That a failed read is of this run, whatever its source did before, `run` says beside
+    -- failed or may have passed the bound; a failed write, only if the sink failed, and its last call is one
+    -- that failed: nothing was written after it, and nothing flushed; or running out of memory. That a failed read is of this run, whatever its source did before, `run` says beside
     -- this, by `TellsOwnReads`.
     pub named : (told : FaultValue) → fault ≡ Some told
         → (TellsInputIf source_g (IsOneOf is_genome_kind) Genome genome genome_after told
         ⊎ TellsOther command genome first first_after second second_after told)
-        ⊎ TellsDevice (sink.has_failed out_after) told
+        ⊎ TellsDevice (sink.has_failed out_after) (sink.last_failed out_after) told
 
 -- What a user sees of a run, from the words of the command line and the texts of the inputs.
 

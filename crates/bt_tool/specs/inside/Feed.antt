@@ -4,7 +4,7 @@ use Rattle.bt_lines.specs.declared.device.Source.{Ghosts as Source}
 use Rattle.bt_lines.specs.model.Fault.{FaultValue, read_failed}
 use Rattle.bt_lines.specs.calls.Faults.{no_memory, write_failed}
 use Rattle.bt_lines.specs.model.Lines.{bytes_in, TextLine}
-use Rattle.bt_lines.specs.calls.Output.{block_size, Output, IsPrefixOf, Grows, HoldsBlock, WorksAsBefore, FailsToAdd, Grown}
+use Rattle.bt_lines.specs.calls.Output.{block_size, Output, IsPrefixOf, Grows, HoldsBlock, WorksAsBefore, FailsToAdd, Grown, SinkFailed}
 use Rattle.bt_lines.specs.calls.Reader.{CutsOff, Hands, IsKept, IsUnread, source_of, input_of, bytes_taken, fault_kept as line_fault, lines_given, lines_left, IsSound, feeds_taken}
 use Rattle.bt_lines.specs.declared.fault.Input.{Input}
 use Rattle.bt_lines.specs.declared.fault.Kind.{Kind}
@@ -179,7 +179,7 @@ pub record CutsLines (old : Output) (lines : List ℕ) (new : Output) : Type 0 w
   pub front : (before : List ℕ) → old.put ≡ Some before
       → IsPrefixOf new.took (Some (before ++ lines)) []
   pub failed : new.has_failed ≡ true
-  pub sink_failed : new.sink_has_failed ≡ true
+  pub sink_failed : SinkFailed new
 
 -- these lines were put, and the sink took all but a block of what was put
 pub record HasPut (old : Output) (lines : List ℕ) (new : Output) : Type 0 where
@@ -336,7 +336,7 @@ pub record FlushFails (old : Output) (fault : Option FaultValue) (answer : Optio
   pub was : fault ≢ Some write_failed
   pub is : answer ≡ Some write_failed
   pub front : IsPrefixOf new.took old.put []
-  pub sink_failed : new.sink_has_failed ≡ true
+  pub sink_failed : SinkFailed new
 
 -- the sink had failed, and nothing more is written
 pub record StaysFailed (old : Output) (fault : Option FaultValue) (answer : Option FaultValue)

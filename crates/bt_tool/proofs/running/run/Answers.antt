@@ -13,6 +13,7 @@ returns-clause-report g c =
       served = ap (λ o. o.output.sink_has_failed) begun.ensures;
       took_after = c.into_sink.ensures.took;
       failed_after = c.into_sink.ensures.failed;
+      last_after = c.into_sink.ensures.last;
     } in
     runs_by g.G.Source g.A.Source g.B.Source
     c.args.plan.now.command c.args.genome c.read_genome-chromosomes.result.1 c.args.first c.write_output-fault.result.1.first c.args.second c.write_output-fault.result.1.second

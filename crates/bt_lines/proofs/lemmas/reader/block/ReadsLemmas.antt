@@ -1,5 +1,5 @@
 -- Lemmas on what the reads of a source handed over.
-use Rattle.bt_lines.proofs.Std.{◌∙◌, ◌≡◌, ◌⊎◌, ℕ, ◌+◌, Bool, true, false, false≢true, List, [], ◌++◌, inl, inr, refl, subst, IsSome, Consumes-nil, Consumes-trans, Option, Some, None, sym, ap, add-zero, append-nil, append_assoc, length-append, arith}
+use Rattle.bt_lines.proofs.Std.{◌∙◌, ◌≡◌, ◌⊎◌, ℕ, true, false, false≢true, List, [], ◌++◌, inl, inr, refl, subst, IsSome, Consumes-nil, Consumes-trans, Option, Some, None, sym, ap, add-zero, append-nil, append_assoc, length-append, arith}
 use Rattle.bt_lines.specs.calls.Device.{FailsAfter, ReadsCounted, ReadsFail, ReadsOn, begun, gave}
 use Rattle.bt_lines.specs.model.Fault.{FaultValue, read_failed}
 use Rattle.bt_lines.specs.calls.Faults.{no_memory}

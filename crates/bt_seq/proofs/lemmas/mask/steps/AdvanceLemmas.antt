@@ -26,7 +26,7 @@ use Rattle.bt_seq.specs.declared.mask.MaskWant.TheVariants.{Line, Bed, Nothing}
 
 -- an output of which all bytes are known
 put_known : List ℕ → Output
-put_known bytes = record { put = Some bytes; took = Some bytes; has_failed = false; sink_has_failed = false; sink_is_flushed = false }
+put_known bytes = record { put = Some bytes; took = Some bytes; has_failed = false; sink_has_failed = false; sink_last_failed = false; sink_is_flushed = false }
 
 grown_known : (bytes : List ℕ) → Grown (put_known []) bytes (put_known bytes)
 unfolding put_known

@@ -6,7 +6,7 @@ use Rattle.bt_lines.proofs.lemmas.Writer.{grows_both}
 use Rattle.bt_lines.specs.model.Fault.{FaultValue, read_failed}
 use Rattle.bt_lines.specs.calls.Faults.{write_failed, no_memory}
 use Rattle.bt_lines.specs.model.Lines.{Handed, whole_text, text_lines, TextLine}
-use Rattle.bt_lines.specs.calls.Output.{Output, IsPrefixOf, HoldsBlock, FailsToAdd, Grown}
+use Rattle.bt_lines.specs.calls.Output.{Output, IsPrefixOf, HoldsBlock, FailsToAdd, Grown, SinkFailed}
 use Rattle.bt_lines.specs.calls.Reader.{Hands, source_of, input_of, lines_given, GivesEnd, GivesFault, GivesLine, IsKept, IsSound, bytes_taken, fault_kept, feeds_taken, lines_left}
 use Rattle.bt_lines.specs.declared.fault.Input.TheVariants.{First}
 use Rattle.bt_lines.specs.declared.fault.Kind.{Kind}
@@ -217,7 +217,7 @@ module _ {S A State : Type 0} {written : Written A} {Taken : List A → Type 0} 
         }
 
     pub drives_cut : {fault : FaultValue} → fault ≡ write_failed → (rest : List ℕ) → written.whole (member_items fed.past) ≡ written.settled (member_items fed.past) ++ rest
-        → IsPrefixOf finished.took grown.put rest → finished.sink_has_failed ≡ true → Ends (Some fault)
+        → IsPrefixOf finished.took grown.put rest → SinkFailed finished → Ends (Some fault)
     drives_cut {fault} is rest whole front sink = record {
       whole = λ one two before reads others put write memory. absurd (write (ap Some is));
       told = λ one two before holds others put of_input. absurd (of_input.no_write (ap Some is));

@@ -5,7 +5,7 @@ use Rattle.bt_lines.proofs.lemmas.Writer.{grown_works, grows_nothing, grows_both
 use Rattle.bt_lines.specs.model.Fault.{FaultValue}
 use Rattle.bt_lines.specs.calls.Faults.{write_failed, no_memory}
 use Rattle.bt_lines.specs.model.Lines.{TextLine}
-use Rattle.bt_lines.specs.calls.Output.{Output, HoldsBlock, IsPrefixOf, Grows, block_size, Grown, WorksAsBefore}
+use Rattle.bt_lines.specs.calls.Output.{Output, HoldsBlock, IsPrefixOf, Grows, block_size, Grown, WorksAsBefore, SinkFailed}
 use Rattle.bt_lines.specs.calls.Reader.{Hands, fault_kept as line_fault, lines_given}
 use Rattle.bt_lines.specs.declared.fault.Kind.{Kind}
 use Rattle.bt_lines.specs.declared.fault.Fault.{Fault}
@@ -127,7 +127,7 @@ module _ {S A State : Type 0} {settled : List A → List ℕ} {Kinds : Kind → 
     {through : Output} (put : HasPut out (settled (member_items before)) through) (sorted : Sorted (member_items before ++ a ∷ [])) {fault : FaultValue} {later : Output} (lines : List ℕ)
     (more : settled (member_items before ++ a ∷ []) ≡ settled (member_items before) ++ lines) where
   -- what is settled with it couldn't be written
-  pub fails_writing : fault ≡ write_failed → IsPrefixOf later.took through.put lines → later.has_failed ≡ true → later.sink_has_failed ≡ true → Grows through.took later.took
+  pub fails_writing : fault ≡ write_failed → IsPrefixOf later.took through.put lines → later.has_failed ≡ true → SinkFailed later → Grows through.took later.took
       → FeedsUpTo settled Kinds Sorted device old out fault new later
   fails_writing is front fails sink grows = record {
     past = given;

@@ -373,7 +373,7 @@ module _ {A B X Y U V : Type 0} {join : JoinDef X Y} {pair : Pair A B X Y U V} {
         ]
       ]
 
-  named_by : (told : FaultValue) → fault ≡ Some told → Because → TellsBoth told ⊎ TellsDevice grown.sink_has_failed told
+  named_by : (told : FaultValue) → fault ≡ Some told → Because → TellsBoth told ⊎ TellsDevice grown.sink_has_failed grown.sink_last_failed told
   named_by told e (inl (end, puts, works)) = inl (tells_by told e end)
   named_by told e (inr (inl ran)) = inr (inr (some_is told no_memory (sym e ∙ ran.0)))
   named_by told e (inr (inr cut)) = inr (inl (some_is told write_failed (sym e ∙ cut.0), cut.1.sink_failed))

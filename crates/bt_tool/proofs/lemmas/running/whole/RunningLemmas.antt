@@ -91,9 +91,9 @@ module _ (out mid new : Output) (fault answer : Option FaultValue) where
   served_by p1 none = grind arith
 
   -- the fault that is reported is the one before the flush, or a failed write
-  pub named_by : {P : FaultValue → Type 0} → ((t : FaultValue) → fault ≡ Some t → P t ⊎ TellsDevice mid.sink_has_failed t)
+  pub named_by : {P : FaultValue → Type 0} → ((t : FaultValue) → fault ≡ Some t → P t ⊎ TellsDevice mid.sink_has_failed mid.sink_last_failed t)
       → (FlushesAll mid fault answer new ⊎ FlushFails mid fault answer new) ⊎ StaysFailed mid fault answer new
-      → (t : FaultValue) → answer ≡ Some t → P t ⊎ TellsDevice new.sink_has_failed t
+      → (t : FaultValue) → answer ≡ Some t → P t ⊎ TellsDevice new.sink_has_failed new.sink_last_failed t
   named_by named p1 t e = grind arith
 
   -- where it lies
@@ -116,8 +116,8 @@ other_chromosomes : (chromosomes : Result (Option (List Entry)) FaultValue) (ent
 other_chromosomes chromosomes entries wrong o e = cc
 
 -- a failed write is reported only if the sink failed
-write_by : {P : Type 0} (b : Bool) → (P → ⊥) → P ⊎ TellsDevice b write_failed → b ≡ true
-write_by b other p1 = grind arith
+write_by : {P : Type 0} (b last : Bool) → (P → ⊥) → P ⊎ TellsDevice b last write_failed → b ≡ true
+write_by b last other p1 = grind arith
 
 -- an input that wasn't touched was read at most up to its first line
 near_untouched : (Beside : ℕ → Type 0) → ((n : ℕ) → Beside n) → (command : Command) (chromosomes : Result (Option (List Entry)) FaultValue) (second : Option Handed) {text before : List ℕ} {left took more : Option (List ℕ)} → left ≡ Some text → took ≡ Some before → Grows took more
@@ -132,6 +132,7 @@ pub record WritesOver {K : Type 0} (sink : Sink K) (out out_after : K) (begun ne
   pub served : begun.sink_has_failed ≡ sink.has_failed out
   pub took_after : sink.took out_after ≡ new.took
   pub failed_after : sink.has_failed out_after ≡ new.sink_has_failed
+  pub last_after : sink.last_failed out_after ≡ new.sink_last_failed
 
 module _ {G A B K : Type 0} (source_g : Source G) (source_a : Source A) (source_b : Source B) {sink : Sink K} (command : Command) (genome genome_after : Option G) (first first_after : A) (second second_after : Option B)
     {out out_after : K} {begun mid new : Output} (writes_over : WritesOver sink out out_after begun new) {fault answer : Option FaultValue} (flushes : Flushes mid fault answer new) where
@@ -163,13 +164,13 @@ module _ {G A B K : Type 0} (source_g : Source G) (source_a : Source A) (source_
     write_of_others : Tells write_failed → ⊥
     write_of_others p1 = grind arith
 
-    others_elsewhere : (t : FaultValue) → Tells t ⊎ TellsDevice mid.sink_has_failed t → lies_in_genome t.place ≡ true → ⊥
+    others_elsewhere : (t : FaultValue) → Tells t ⊎ TellsDevice mid.sink_has_failed mid.sink_last_failed t → lies_in_genome t.place ≡ true → ⊥
     others_elsewhere t p1 lies = grind arith
 
     sink_failed : fault ≡ Some write_failed → mid.sink_has_failed ≡ true
-    sink_failed e = write_by mid.sink_has_failed write_of_others (writes.named write_failed e)
+    sink_failed e = write_by mid.sink_has_failed mid.sink_last_failed write_of_others (writes.named write_failed e)
 
-    of_others : (t : FaultValue) → Tells t ⊎ TellsDevice mid.sink_has_failed t → (GenomeTells t ⊎ OthersTell t) ⊎ TellsDevice mid.sink_has_failed t
+    of_others : (t : FaultValue) → Tells t ⊎ TellsDevice mid.sink_has_failed mid.sink_last_failed t → (GenomeTells t ⊎ OthersTell t) ⊎ TellsDevice mid.sink_has_failed mid.sink_last_failed t
     of_others t p1 = grind arith
 
     report_is : (inputs : Inputs) → chromosomes_of inputs.genome ≡ Ok chromosomes → report_of command inputs ≡ reported inputs
@@ -208,7 +209,7 @@ module _ {G A B K : Type 0} (source_g : Source G) (source_a : Source A) (source_
           absurd (others_elsewhere t (writes.named t (placed_by begun mid new fault answer t e there flushes.ends)) there);
       begun = inr (table, knows);
       named = λ t e.
-          rw writes_over.failed_after (named_by begun mid new fault answer (λ t e. of_others t (writes.named t e)) flushes.ends t e);
+          rw (writes_over.failed_after, writes_over.last_after) (named_by begun mid new fault answer (λ t e. of_others t (writes.named t e)) flushes.ends t e);
     }
 
   -- the genome file is at fault, and nothing else was touched
@@ -227,7 +228,7 @@ module _ {G A B K : Type 0} (source_g : Source G) (source_a : Source A) (source_
     no_write e = lacks.no_write (some_is wrong write_failed (sym stops.0 ∙ e))
 
     genome_named : (t : FaultValue) → TellsInputIf source_g (IsOneOf is_genome_kind) FromGenome genome genome_after wrong ⊎ (wrong ≡ no_memory) → wrong ≡ t
-        → (GenomeTells t ⊎ OthersTell t) ⊎ TellsDevice mid.sink_has_failed t
+        → (GenomeTells t ⊎ OthersTell t) ⊎ TellsDevice mid.sink_has_failed mid.sink_last_failed t
     genome_named t p1 e = grind arith
 
     pub runs_wrong : RunsSo
@@ -257,7 +258,7 @@ module _ {G A B K : Type 0} (source_g : Source G) (source_a : Source A) (source_
       untouched = λ t e place at is. (stops.1, stops.2);
       begun = inl (stops.1, stops.2);
       named = λ t e.
-          rw writes_over.failed_after (named_by begun mid new fault answer (λ t e. genome_named t lacks.named (some_is wrong t (sym stops.0 ∙ e))) flushes.ends t e);
+          rw (writes_over.failed_after, writes_over.last_after) (named_by begun mid new fault answer (λ t e. genome_named t lacks.named (some_is wrong t (sym stops.0 ∙ e))) flushes.ends t e);
     }
 
   pub runs_by : (chromosomes : Result (Option Genome) Fault) → ReadsChromosomes source_g genome chromosomes genome_after → WritesOutput source_a source_b command first second begun fault first_after second_after mid chromosomes → RunsSo
