@@ -1,5 +1,5 @@
 -- Lemmas on the definitions of a good input.
-use Rattle.bt_lines.proofs.Std.{rules, ◌≡◌, ℕ, ◌<◌, Bool, true, false, cond, List, [], ◌∷◌, Option, Some, None, Result, Ok, Err, refl, arith, IsTrue, IfSome, All-nil, All-cons, ◌&&◌, ◌++◌, sym, ap, ◌∙◌, append_assoc, flat_map, if◌then◌else◌, list_all, and_parts, and_left, and_right, list_all-append, option_or, ◌+◌}
+use Rattle.bt_lines.proofs.Std.{rules, ◌≡◌, ℕ, ◌<◌, Bool, true, false, cond, List, [], ◌∷◌, Option, Some, None, Result, Ok, Err, refl, arith, IsTrue, IfSome, All-nil, All-cons, ◌&&◌, ◌++◌, sym, ap, ◌∙◌, append_assoc, flat_map, if◌then◌else◌, list_all, and_parts, and_left, and_right, list_all-append, option_or}
 use Rattle.bt_lines.specs.model.Lines.{lines_handed, TextLine}
 use Rattle.bt_lines.specs.declared.fault.Input.{Input}
 use Rattle.bt_lines.specs.declared.fault.Kind.{Kind}
