@@ -1,12 +1,10 @@
 -- Lemmas on the definitions of a good input.
-use Rattle.bt_lines.proofs.Std.{rules, ◌≡◌, ℕ, ◌<◌, Bool, true, false, cond, List, [], ◌∷◌, Option, Some, None, Result, Ok, Err, refl, arith, IsTrue, IfSome, All-nil, All-cons, ◌&&◌, ◌++◌, sym, ap, ◌∙◌, append_assoc, flat_map, if◌then◌else◌, list_all, and_parts, and_left, and_right, list_all-append, option_or, zero, suc, ◌+◌, ◌≤◌, ◌⊎◌, inl, inr, cases_Bool, cond-true, cond-false, cases_lt}
+use Rattle.bt_lines.proofs.Std.{rules, ◌≡◌, ℕ, ◌<◌, Bool, true, false, cond, List, [], ◌∷◌, Option, Some, None, Result, Ok, Err, refl, arith, IsTrue, IfSome, All-nil, All-cons, ◌&&◌, ◌++◌, sym, ap, ◌∙◌, append_assoc, flat_map, if◌then◌else◌, list_all, and_parts, and_left, and_right, list_all-append, option_or}
 use Rattle.bt_lines.specs.model.Lines.{lines_handed, TextLine}
 use Rattle.bt_lines.specs.declared.fault.Input.{Input}
 use Rattle.bt_lines.specs.declared.fault.Kind.{Kind}
-use Rattle.bt_bed.specs.model.Feature.{Feature, interval_of, intervals_of, Span}
+use Rattle.bt_bed.specs.model.Feature.{Feature, interval_of, intervals_of}
 use Rattle.bt_bed.specs.calls.Orders.{AreNonEmpty, good_are_placed, good_are_non_empty, AreInBlocks, IsBlockUpTo, good_are_in_blocks, IsTotal, IsUpTo, ArePlaced, IsPlacedBefore}
-use Rattle.bt_bed.specs.model.Positions.{IsCovered, AreApartFrom, AreStretchesOf}
-use Rattle.bt_bed.specs.calls.Stretches.{with_position, stretches_from, scan_finds_stretches}
 use Rattle.bt_bed.specs.model.BedLine.{record_of}
 use Rattle.bt_bed.specs.model.Good.{good, Good, good_from, good_with, items_in, bed_format, line_says, locus_at, block_format}
 use Rattle.bt_bed.specs.model.Meeting.{Rule, Met, join_report, written}

@@ -1,5 +1,5 @@
 -- A scan of the positions finds the stretches of those that pass a test, and no other list makes them up.
-use Rattle.bt_lines.proofs.Std.{◌≡◌, ℕ, zero, suc, ◌+◌, ◌<◌, ◌≤◌, ◌⊎◌, inl, inr, Bool, true, cond, List, [], ◌∷◌, refl, arith, IsTrue, cases_Bool, cases_lt, cond-true, cond-false}
+use Rattle.bt_lines.proofs.Std.{◌≡◌, ℕ, zero, suc, ◌+◌, ◌<◌, ◌≤◌, ◌⊎◌, inl, inr, Bool, true, List, [], ◌∷◌, refl, arith, cases_Bool, cases_lt, cond-true, cond-false}
 use Rattle.bt_bed.specs.model.Feature.{Span}
 use Rattle.bt_bed.specs.model.Positions.{IsCovered, AreApartFrom, AreStretchesOf, OneSpanList, PassesBelow}
 use Rattle.bt_bed.specs.calls.Stretches.{with_position, stretches_from, scan_finds_stretches}
