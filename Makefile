@@ -19,6 +19,9 @@ DATE := $(shell git log -1 --format=%ct 2> /dev/null || stat -c %Y CHANGELOG.md)
 DIST := dunekettle-$(VERSION)-$(or $(CPU),$(shell uname -m))
 DEB = dunekettle-bedtools_$(VERSION)_$(or $(CPU),$(shell dpkg --print-architecture)).deb
 
+# Runs the tests of a folder.
+UNITTEST := python3 -m unittest discover -t .
+
 PROGRAM := bin/$(if $(CPU),$(CPU)/)bedtools
 # What the prover and the compiler say.
 LOG := bin/build.log
@@ -92,13 +95,7 @@ check-docs: $(PROGRAM)
 # spaces and with each growth refused; large sizes; what is allocated over many records; random bytes; and the laws of
 # docs/PIPES.md on random inputs.
 check-program: $(PROGRAM)
-	docs/edges.py
-	docs/scarce.py
-	docs/refusals.py
-	docs/ample.py
-	docs/allocations.py
-	docs/hostile.py
-	docs/laws.py
+	$(UNITTEST) -s tests/program
 
 # The instructions a record, beside those in bench/instructions.txt.
 check-speed: $(PROGRAM)

@@ -1,25 +1,25 @@
-#!/usr/bin/env python3
-"""Tries the laws of docs/PIPES.md on random small inputs: docs/laws.py [PROGRAM] [SECONDS].
+"""The laws of docs/PIPES.md on random small inputs. Each chromosome of a run is a case of its own.
 
-Each chromosome of a run is a case of its own. A counter-example is printed, and the status is then 1.
+The environment may say LAW_SECONDS=N, how long all laws together are tried, and SEED=N.
 """
 
 import itertools
 import random
 import subprocess
-import sys
 import tempfile
 import time
 from pathlib import Path
+from typing import Callable, NamedTuple
 
-TOP = Path(__file__).resolve().parent.parent
-PROGRAM = Path(sys.argv[1] if len(sys.argv) > 1 else TOP / "bin" / "bedtools").resolve()
-SECONDS = float(sys.argv[2]) if len(sys.argv) > 2 else 20
-NAMES = ["c%03d" % i for i in range(250)]
+from tests.support import PROGRAM, Counted, each, number
+
+SECONDS = number("LAW_SECONDS", 20)
+SEED = number("SEED", random.randrange(10**9))
+NAMES = [f"c{at:03}" for at in range(250)]
 
 
 class Counterexample(Exception):
-    pass
+    """Two texts that differ, with the records of their chromosome."""
 
 
 class World:
@@ -30,7 +30,7 @@ class World:
         self.length = {name: rng.randint(1, 40) for name in NAMES}
         self.a = {name: self.records(name, apart, within) for name in NAMES}
         self.b = {name: self.records(name, False, within) for name in NAMES}
-        self.genome = self.file("".join("%s\t%d\n" % item for item in self.length.items()))
+        self.genome = self.file("".join(f"{name}\t{length}\n" for name, length in self.length.items()))
         self.fa, self.fb = self.bed(self.a), self.bed(self.b)
         # records over all of a chromosome: one on the strand +, two on the strand -
         self.strands = self.bed({name: [(0, 100, "all", "0", strand) for strand in "+--"] for name in NAMES})
@@ -41,24 +41,25 @@ class World:
         for _ in range(self.rng.choice((0, 1, 1, 2, 3, 5))):
             start = self.rng.randrange(end)
             stop = min(start + self.rng.randint(1, 15), end if within else 70)
-            found.append((start, stop, "n%d" % self.rng.randrange(9), "0", self.rng.choice("+-.")))
+            found.append((start, stop, f"n{self.rng.randrange(9)}", "0", self.rng.choice("+-.")))
         found.sort(key=lambda record: record[0])
         if apart:
             found = [r for i, r in enumerate(found) if all(q[1] <= r[0] for q in found[:i])]
         return found
 
     def file(self, text):
-        path = self.folder / ("f%d" % next(self.files))
+        path = self.folder / f"f{next(self.files)}"
         path.write_text(text)
         return str(path)
 
     def bed(self, records):
-        return self.file("".join("\t".join([name, *map(str, r)]) + "\n" for name in NAMES for r in records[name]))
+        lines = ("\t".join([name, *map(str, record)]) for name in NAMES for record in records[name])
+        return self.file("".join(f"{line}\n" for line in lines))
 
     def run(self, *words):
-        done = subprocess.run([PROGRAM, *words], stdin=subprocess.DEVNULL, capture_output=True, text=True)
+        done = subprocess.run([PROGRAM, *words], stdin=subprocess.DEVNULL, capture_output=True, text=True, check=False)
         if done.returncode:
-            raise Counterexample("%s: %s" % (" ".join(words), done.stderr))
+            raise Counterexample(f"{' '.join(words)}: {done.stderr}")
         return done.stdout
 
     def one(self, command, path, *words):
@@ -88,8 +89,8 @@ def same(world, left, right, what=""):
     left, right = (by_chromosome(t) if isinstance(t, str) else t for t in (left, right))
     for name in NAMES:
         if left.get(name, []) != right.get(name, []):
-            raise Counterexample("%s %s of length %d\nA: %s\nB: %s\nleft: %s\nright: %s" % (
-                what, name, world.length[name], world.a[name], world.b[name], left.get(name), right.get(name)))
+            raise Counterexample(f"{what} {name} of length {world.length[name]}\nA: {world.a[name]}\n"
+                                 f"B: {world.b[name]}\nleft: {left.get(name)}\nright: {right.get(name)}")
     return len(NAMES)
 
 
@@ -107,12 +108,13 @@ def columns_of(text, count=None):
 
 
 def is_input(world, text):
-    """Taken as the first or the second input the text is without a fault. All columns and the strands are read again."""
+    """Taken as the first or the second input the text is without a fault. All columns and strands are read again."""
     path, said = world.file(text), columns_of(text)
     read = columns_of(world.two("intersect", path, world.strands, "-c", "-s"))
     world.two("intersect", world.fa, path, "-u")
     times = {"+": "1", "-": "2", ".": "0"}
-    return same(world, read, {n: [row + [times[strand_of(row)]] for row in rows] for n, rows in said.items()}, "as an input")
+    wanted = {n: [row + [times[strand_of(row)]] for row in rows] for n, rows in said.items()}
+    return same(world, read, wanted, "as an input")
 
 
 def are_kept(world, text, rule, times):
@@ -132,7 +134,9 @@ def are_cut(world, text, rule, times):
 def none_overlap(world, text, apart):
     """No two records overlap, or even touch."""
     found = {n: [(int(r[1]), int(r[2])) for r in rows] for n, rows in columns_of(text).items()}
-    return same(world, {n: [p for p, q in zip(rows, rows[1:]) if p[1] > q[0] or apart and p[1] == q[0]] for n, rows in found.items()}, {}, "overlapping")
+    overlaps = {n: [p for p, q in zip(rows, rows[1:]) if p[1] > q[0] or apart and p[1] == q[0]]
+                for n, rows in found.items()}
+    return same(world, overlaps, {}, "overlapping")
 
 
 def depths(world, option):
@@ -178,14 +182,17 @@ def pipe_subtract(w):
 def pipe_bamtobed(w):
     lengths = {"5M": 5, "2M3N2M": 7, "1S4M": 4, "3M1D2M": 6}
     found = [(n, r[0], w.rng.choice((0, 16)), w.rng.choice(tuple(lengths))) for n in NAMES for r in w.a[n]]
-    sam = "".join("r\t%d\t%s\t%d\t9\t%s\t*\t0\t0\t*\t*\n" % (flag, n, start + 1, cigar) for n, start, flag, cigar in found)
-    bed = "".join("%s\t%d\t%d\tr\t9\t%s\n" % (n, start, start + lengths[cigar], "-" if flag else "+") for n, start, flag, cigar in found)
+    sam = "".join(f"r\t{flag}\t{n}\t{start + 1}\t9\t{cigar}\t*\t0\t0\t*\t*\n" for n, start, flag, cigar in found)
+    bed = "".join(f"{n}\t{start}\t{start + lengths[cigar]}\tr\t9\t{'-' if flag else '+'}\n"
+                  for n, start, flag, cigar in found)
     text = w.run("bamtobed", "-i", w.file(sam))
     return is_input(w, text) + same(w, text, bed)
 
 
 def fasta(w):
-    return "".join(">%s\n%s\n" % (n, "\n".join("".join(w.rng.choice("acgtACGTN") for _ in range(7)) for _ in range(w.rng.randint(1, 6)))) for n in NAMES)
+    def lines():
+        return ("".join(w.rng.choice("acgtACGTN") for _ in range(7)) + "\n" for _ in range(w.rng.randint(1, 6)))
+    return "".join(f">{n}\n{''.join(lines())}" for n in NAMES)
 
 
 def sequences(text):
@@ -201,8 +208,7 @@ def mask(w, text, bed, words):
 def pipe_mask(w):
     text = fasta(w)
     done = mask(w, text, w.fa, ())
-    layout = lambda t: {name: [len(line) for line in lines] for name, lines in sequences(t).items()}
-    return same(w, layout(text), layout(done))
+    return same(w, *({name: list(map(len, lines)) for name, lines in sequences(it).items()} for it in (text, done)))
 
 
 def merge_merge(w):
@@ -221,7 +227,7 @@ def complement_twice(w):
     for line in w.one("merge", w.fa).splitlines():
         name, start, stop = line.split("\t")
         if int(start) < w.length[name]:
-            cut.append("%s\t%s\t%d\n" % (name, start, min(int(stop), w.length[name])))
+            cut.append(f"{name}\t{start}\t{min(int(stop), w.length[name])}\n")
     return same(w, w.one("complement", w.file(w.one("complement", w.fa))), "".join(cut))
 
 
@@ -229,7 +235,8 @@ def depth_0(w):
     lines = depths(w, "-bga").splitlines(keepends=True)
     bare = "".join(line for line in lines if line.endswith("\t0\n"))
     gaps = "".join(line + "\t0\n" for line in w.one("complement", w.fa).splitlines())
-    return same(w, bare, gaps) + same(w, "".join(line for line in lines if not line.endswith("\t0\n")), depths(w, "-bg"))
+    deep = "".join(line for line in lines if not line.endswith("\t0\n"))
+    return same(w, bare, gaps) + same(w, deep, depths(w, "-bg"))
 
 
 def merge_depths(w):
@@ -239,14 +246,17 @@ def merge_depths(w):
 
 def depth_sum(w):
     found = by_chromosome(depths(w, "-bg"))
-    total = {n: sum((int(t) - int(s)) * int(d) for _, s, t, d in (line.split("\t") for line in found.get(n, []))) for n in NAMES}
+    rows = {n: [line.split("\t") for line in found.get(n, [])] for n in NAMES}
+    total = {n: sum((int(stop) - int(start)) * int(depth) for _, start, stop, depth in rows[n]) for n in NAMES}
     return same(w, total, {n: sum(max(0, min(r[1], w.length[n]) - r[0]) for r in w.a[n]) for n in NAMES})
 
 
 def counts(w):
     rule = w.rule()
     lines = [line.rsplit("\t", 1) for line in w.two("intersect", w.fa, w.fb, "-c", *rule).splitlines()]
-    write = lambda times: "".join((text + "\n") * times(int(n)) for text, n in lines)
+
+    def write(times):
+        return "".join((text + "\n") * times(int(n)) for text, n in lines)
     u, v, wa = (w.two("intersect", w.fa, w.fb, shape, *rule) for shape in ("-u", "-v", "-wa"))
     return same(w, u, write(lambda n: n > 0)) + same(w, v, write(lambda n: n == 0)) + same(w, wa, write(lambda n: n))
 
@@ -268,14 +278,18 @@ def merged_second(w):
 
 def sides(w):
     rule = w.rng.choice(([], ["-s"], ["-f", "0.3", "-r"], ["-f", "1", "-r", "-s"]))
-    pairs = lambda text, swap: {n: sorted(line.split("\t")[6:] + line.split("\t")[:6] if swap else line.split("\t") for line in lines) for n, lines in by_chromosome(text).items()}
-    return same(w, pairs(w.two("intersect", w.fa, w.fb, "-wa", "-wb", *rule), False), pairs(w.two("intersect", w.fb, w.fa, "-wa", "-wb", *rule), True))
+    first = columns_of(w.two("intersect", w.fa, w.fb, "-wa", "-wb", *rule))
+    second = columns_of(w.two("intersect", w.fb, w.fa, "-wa", "-wb", *rule))
+    swapped = {n: [row[6:] + row[:6] for row in rows] for n, rows in second.items()}
+    return same(w, *({n: sorted(rows) for n, rows in pairs.items()} for pairs in (first, swapped)))
 
 
 def parts_of_a(w):
-    cut, left, whole = bases(w.two("intersect", w.fa, w.fb)), bases(w.two("subtract", w.fa, w.fb)), bases(w.run("intersect", "-a", w.fa, "-b", w.fa, "-g", w.genome, "-u"))
-    return same(w, {n: sorted(set(cut.get(n, [])) | set(left.get(n, []))) for n in NAMES}, {n: whole.get(n, []) for n in NAMES}) + \
-        same(w, {n: sorted(set(cut.get(n, [])) & set(left.get(n, []))) for n in NAMES}, {n: [] for n in NAMES})
+    cut, left = bases(w.two("intersect", w.fa, w.fb)), bases(w.two("subtract", w.fa, w.fb))
+    whole = bases(w.two("intersect", w.fa, w.fa, "-u"))
+    both = {n: (set(cut.get(n, [])), set(left.get(n, []))) for n in NAMES}
+    return same(w, {n: sorted(one | other) for n, (one, other) in both.items()}, {n: whole.get(n, []) for n in NAMES}) \
+        + same(w, {n: sorted(one & other) for n, (one, other) in both.items()}, {n: [] for n in NAMES})
 
 
 def masks(w):
@@ -294,38 +308,56 @@ def exchanged(w):
     d = ["-d", str(w.rng.randrange(3))]
     merged, gaps = w.one("merge", w.fa, *d), w.one("complement", w.fa)
     return same(w, merged, w.one("merge", other, *d)) + same(w, gaps, w.one("complement", other)) + \
-        same(w, depths(w, "-bga"), w.one("genomecov", other, "-bga")) + same(w, merged, w.one("merge", double, *d)) + same(w, gaps, w.one("complement", double))
+        same(w, depths(w, "-bga"), w.one("genomecov", other, "-bga")) + \
+        same(w, merged, w.one("merge", double, *d)) + same(w, gaps, w.one("complement", double))
 
 
-# The law, how it is tried, and what is asked of A (and of both inputs).
+class Law(NamedTuple):
+    """A law, how it is tried, and what is asked of A: that its records don't overlap; and of both inputs: that no
+    record reaches past its chromosome."""
+
+    name: str
+    tried: Callable
+    apart: bool = False
+    within: bool = False
+
+
 LAWS = (
-    ("merge goes on", pipe_merge, {}), ("complement and genomecov go on", pipe_gaps, {}),
-    ("intersect by records of A goes on", pipe_intersect, {}), ("intersect by cuts goes on", pipe_cut, {"apart": True}),
-    ("subtract -A goes on", pipe_whole, {}), ("subtract goes on", pipe_subtract, {"apart": True}),
-    ("bamtobed goes on", pipe_bamtobed, {}), ("maskfasta keeps the layout", pipe_mask, {}),
-    ("merge of merge", merge_merge, {}), ("complement of merge", complement_merge, {}), ("complement of complement", complement_twice, {}),
-    ("depth 0 is complement", depth_0, {}), ("merge of genomecov", merge_depths, {"within": True}), ("sum of depths", depth_sum, {}),
-    ("-u, -v and -wa by -c", counts, {}), ("-v is subtract -A", v_is_whole, {}), ("subtract by complement", subtract_gaps, {"within": True}),
-    ("merge of B", merged_second, {}), ("both sides", sides, {}), ("intersect and subtract part A", parts_of_a, {"apart": True}),
-    ("maskfasta twice, merged, both", masks, {}), ("equal starts, given twice", exchanged, {}),
+    Law("merge goes on", pipe_merge),
+    Law("complement and genomecov go on", pipe_gaps),
+    Law("intersect by records of A goes on", pipe_intersect),
+    Law("intersect by cuts goes on", pipe_cut, apart=True),
+    Law("subtract -A goes on", pipe_whole),
+    Law("subtract goes on", pipe_subtract, apart=True),
+    Law("bamtobed goes on", pipe_bamtobed),
+    Law("maskfasta keeps the layout", pipe_mask),
+    Law("merge of merge", merge_merge),
+    Law("complement of merge", complement_merge),
+    Law("complement of complement", complement_twice),
+    Law("depth 0 is complement", depth_0),
+    Law("merge of genomecov", merge_depths, within=True),
+    Law("sum of depths", depth_sum),
+    Law("-u, -v and -wa by -c", counts),
+    Law("-v is subtract -A", v_is_whole),
+    Law("subtract by complement", subtract_gaps, within=True),
+    Law("merge of B", merged_second),
+    Law("both sides", sides),
+    Law("intersect and subtract part A", parts_of_a, apart=True),
+    Law("maskfasta twice, merged, both", masks),
+    Law("equal starts, given twice", exchanged),
 )
 
 
-def main():
-    seed = int(sys.argv[3]) if len(sys.argv) > 3 else random.randrange(10**9)
-    failed = False
-    for name, law, asked in LAWS:
-        cases, end, rng = 0, time.monotonic() + SECONDS / len(LAWS), random.Random(seed)
-        try:
-            while not cases or time.monotonic() < end:
-                with tempfile.TemporaryDirectory() as folder:
-                    cases += law(World(Path(folder), rng, **asked))
-            print("%-34s %8d cases" % (name, cases), flush=True)
-        except Counterexample as found:
-            failed = True
-            print("%s: COUNTER-EXAMPLE (seed %d)\n%s" % (name, seed, found), flush=True)
-    sys.exit(1 if failed else 0)
+@each(LAWS)
+class Laws(Counted):
+    said = "{laws} laws, {cases} cases"
 
-
-if __name__ == "__main__":
-    main()
+    def case(self, law):
+        cases, end, rng = 0, time.monotonic() + SECONDS / len(LAWS), random.Random(SEED)
+        while not cases or time.monotonic() < end:
+            with tempfile.TemporaryDirectory() as folder:
+                try:
+                    cases += law.tried(World(Path(folder), rng, law.apart, law.within))
+                except Counterexample as found:
+                    self.fail(f"SEED={SEED} python3 -m unittest {self.id()}\n{found}")
+        self.counts.update(laws=1, cases=cases)

@@ -68,7 +68,8 @@ def genome_of(name, text):
             continue
         columns = line.split(b"\t")
         refuse_first([(len(columns) < 2, "too few columns"), (columns[0] == b"", "empty chromosome name")], name, at)
-        refuse_first([(not number(columns[1]), "length is not a number"), (columns[0] in genome, "chromosome is repeated")], name, at)
+        refuse_first([(not number(columns[1]), "length is not a number"),
+                      (columns[0] in genome, "chromosome is repeated")], name, at)
         genome[columns[0]] = number(columns[1])
     return genome
 
@@ -90,7 +91,8 @@ def record_of(name, at, line, genome):
                   (start is None, "start is not a number"), (stop is None, "end is not a number")], name, at)
     refuse_first([(start >= stop, "start is not below end"),
                   (genome is not None and columns[0] not in genome, "chromosome is not in the genome file")], name, at)
-    return Record(at, columns[0] if genome is None else list(genome).index(columns[0]), columns[0], start, stop, columns[3:])
+    rank = columns[0] if genome is None else list(genome).index(columns[0])
+    return Record(at, rank, columns[0], start, stop, columns[3:])
 
 
 def records_of(name, text, genome, in_blocks=False):
@@ -102,7 +104,8 @@ def records_of(name, text, genome, in_blocks=False):
             record = record_of(name, at, line, genome)
             if record is None:
                 continue
-            is_before = found and (record.place() < found[-1].place()) and (not in_blocks or found[-1].chrom == record.chrom)
+            is_one_list = found and (not in_blocks or found[-1].chrom == record.chrom)
+            is_before = is_one_list and record.place() < found[-1].place()
             refuse_first([(is_before, "record is out of order")], name, at)
         except Fault as fault:
             return found, fault
@@ -130,7 +133,8 @@ def merge(records, fault, _, options):
         else:
             runs.append([record.chrom, record.start, record.stop, strand])
     settled = 0
-    while fault and settled < len(runs) and (runs[settled][0] != records[-1].chrom or runs[settled][2] + gap < records[-1].start):
+    while fault and settled < len(runs) and (
+            runs[settled][0] != records[-1].chrom or runs[settled][2] + gap < records[-1].start):
         settled += 1
     return whole_lines(b"%s\t%d\t%d" % tuple(run[:3]) for run in (runs[:settled] if fault else runs))
 
@@ -180,7 +184,8 @@ def hits_of(record, others, options):
     fraction = round(float(options[options.index("-f") + 1]) * 10**9) if "-f" in options else 0
     for other in others:
         shared = min(record.stop, other.stop) - max(record.start, other.start)
-        is_enough = shared * 10**9 >= fraction * (max(record.length(), other.length()) if "-r" in options else record.length())
+        longest = max(record.length(), other.length()) if "-r" in options else record.length()
+        is_enough = shared * 10**9 >= fraction * longest
         is_of_strand = "-s" not in options or record.strand() == other.strand()
         if record.chrom == other.chrom and shared > 0 and is_enough and is_of_strand:
             yield other, shared
@@ -192,7 +197,8 @@ def intersect_lines(record, hits, options):
         return [record.text()] if bool(hits) == ("-u" in options) else []
     if "-c" in options:
         return [record.text() + b"\t%d" % len(hits)]
-    is_whole, has_other, has_shared = "-wa" in options or "-wo" in options, "-wb" in options or "-wo" in options, "-wo" in options
+    has_shared = "-wo" in options
+    is_whole, has_other = "-wa" in options or has_shared, "-wb" in options or has_shared
     found = []
     for other, shared in hits:
         cut = record.text(max(record.start, other.start), min(record.stop, other.stop))
@@ -221,7 +227,8 @@ def within_limit(records, second, options):
     for count in range(1, len(others) + 1 if most is not None else 1):
         seen = others[:count]
         undecided = next((record for record in records if seen[-1].place() < (record.rank, record.stop)), None)
-        held = [other for other in seen if undecided and other.chrom == undecided.chrom and other.stop > undecided.start]
+        held = [other for other in seen
+                if undecided and other.chrom == undecided.chrom and other.stop > undecided.start]
         if len(held) > most:
             return seen, Fault("b.bed", seen[-1].line, "too many open records")
     return others, fault
@@ -379,13 +386,16 @@ OF_TWO = {"-a": FILE, "-b": FILE, "-g": FILE, "-f": FRACTION, "-s": None, "-held
 OPTIONS = {
     "merge": {"-i": FILE, "-g": FILE, "-d": NUMBER, "-s": None, "-S": STRAND},
     "complement": {"-i": FILE, "-g": FILE, "-L": None},
-    "intersect": {**OF_TWO, "-wa": None, "-wb": None, "-wo": None, "-u": None, "-v": None, "-c": None, "-r": None, "-sorted": None},
+    "intersect": {**OF_TWO, "-wa": None, "-wb": None, "-wo": None, "-u": None, "-v": None, "-c": None, "-r": None,
+                  "-sorted": None},
     "subtract": {**OF_TWO, "-A": None},
     "genomecov": {"-i": FILE, "-g": FILE, "-bg": None, "-bga": None, "-strand": STRAND},
     "bamtobed": {"-i": FILE, "-split": None, "-cigar": None},
     "maskfasta": {"-fi": FILE, "-bed": FILE, "-fo": FILE, "-soft": None, "-mc": CHARACTER, "-fullHeader": None},
 }
-REQUIRED = {"complement": ["-g"], "intersect": ["-a", "-b"], "subtract": ["-a", "-b"], "genomecov": ["-g"], "maskfasta": ["-fi", "-bed"]}
+REQUIRED = {"complement": ["-g"], "intersect": ["-a", "-b"], "subtract": ["-a", "-b"], "genomecov": ["-g"],
+            "maskfasta": ["-fi", "-bed"]}
+INPUTS = ("-i", "-g", "-a", "-b", "-fi", "-bed")
 SHAPES = ["-wa", "-wb", "-wo", "-u", "-v", "-c"]
 TOGETHER = [{"-wa", "-wb"}, {"-wa", "-u"}, {"-wa", "-v"}, {"-wa", "-c"}]
 
@@ -417,7 +427,8 @@ def excludes(command, found):
     """Whether options are given that exclude one another."""
     shapes = [shape for shape in SHAPES if shape in found] if command == "intersect" else []
     pairs = [{one, other} for one in shapes for other in shapes if one != other]
-    is_over_input = found.get("-fo") not in (None, "-", "stdout") and found.get("-fo") in (found.get("-fi"), found.get("-bed"))
+    output = found.get("-fo")
+    is_over_input = output not in (None, "-", "stdout") and output in (found.get("-fi"), found.get("-bed"))
     both = {"merge": {"-s", "-S"}, "maskfasta": {"-soft", "-mc"}}.get(command, {None})
     return any(pair not in TOGETHER for pair in pairs) or both <= set(found) or is_over_input
 
@@ -436,5 +447,5 @@ def usage_of(words):
     if excludes(command, found):
         return "options exclude one another"
     missing = {"-i": "-"}
-    inputs = [found.get(option, missing.get(option)) for option in ("-i", "-g", "-a", "-b", "-fi", "-bed") if option in OPTIONS[command]]
+    inputs = [found.get(option, missing.get(option)) for option in INPUTS if option in OPTIONS[command]]
     return "standard input named twice" if sum(name in ("-", "stdin") for name in inputs) > 1 else None

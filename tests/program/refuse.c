@@ -1,4 +1,4 @@
-// Preloaded into the program by refusals.py and allocations.py. It counts what is allocated. It refuses one growth of memory, or all from one on; hands over a line at
+// Preloaded into the program by runs.py. It counts what is allocated. It refuses one growth of memory, or all from one on; hands over a line at
 // most at each read of a file; and lets reads fail behind so many lines, and writes behind so many bytes. A read or a
 // write that is tried again after it failed ends the program with status 99. What it is to do stands in the environment:
 //

@@ -2,15 +2,17 @@
 
 CHROMOSOMES = [(b"chr1", 1000), (b"chr2", 50), (b"chr10", 300)]
 LINE_ENDS = [b"\n"] * 6 + [b"\r\n", b"\r\n", b"\r", b"\r\r\n", b"\n\n", b""]
-NUMBERS = [b"0", b"1", b"5", b"10", b"20", b"007", b"49", b"50", b"300", b"999", b"1000", b"999999999999", b"1000000000000",
-           b"18446744073709551616", b"-1", b"+1", b"1.5", b"1e3", b""]
+NUMBERS = [b"0", b"1", b"5", b"10", b"20", b"007", b"49", b"50", b"300", b"999", b"1000", b"999999999999",
+           b"1000000000000", b"18446744073709551616", b"-1", b"+1", b"1.5", b"1e3", b""]
 STRANDS = [b"+", b"-", b".", b"", b"++"]
 NAMES = [b"chr1", b"chr2", b"chr10", b"chr", b"chr1 ", b"", b"*", b"\xff\xfe", b"#", b"track", b"browser", b"trackX"]
-CIGARS = [b"*", b"4M", b"10M", b"6M14N5M", b"5S5M", b"3N3N", b"5N5M", b"0M", b"5Q", b"M", b"999999999999M", b"1M" * 30, b"8M2I4M1D3M"]
+CIGARS = [b"*", b"4M", b"10M", b"6M14N5M", b"5S5M", b"3N3N", b"5N5M", b"0M", b"5Q", b"M",
+          b"999999999999M", b"1M" * 30, b"8M2I4M1D3M"]
 SOUP = [b"\t"] * 8 + [b"\n", b"\n", b"\r\n", b"\r", b" ", b">", b"@", b"#", b"/", b"="] + NUMBERS + STRANDS + NAMES
 BASES = [b"ACGT", b"acgtn", b"N", b"A" * 70, b"", b">", b" ", b"\t"]
 # What stands in the place of a changed byte: digits and what ends or parts something come more often than others.
-CHANGES = [bytes([byte]) for byte in range(256)] + [b"\n", b"\r", b"\t", b"", b"\t\t", b">", b"#", b"\n\n", *b"0 1 2 4 9".split()] * 20
+FREQUENT = [b"\n", b"\r", b"\t", b"", b"\t\t", b">", b"#", b"\n\n", *b"0 1 2 4 9".split()]
+CHANGES = [bytes([byte]) for byte in range(256)] + FREQUENT * 20
 
 
 def bed_columns(numbers):
@@ -33,7 +35,8 @@ def sam_columns(numbers):
     if numbers.random() < 0.7:
         return sam_record(numbers)
     place = [numbers.choice(NAMES), numbers.choice(NUMBERS), numbers.choice(NUMBERS), numbers.choice(CIGARS)]
-    return [b"r", numbers.choice(NUMBERS), *place, *[numbers.choice(NAMES) for _ in range(numbers.choice([5, 5, 5, 4, 8]))]]
+    flag = numbers.choice(NUMBERS)
+    return [b"r", flag, *place, *[numbers.choice(NAMES) for _ in range(numbers.choice([5, 5, 5, 4, 8]))]]
 
 
 def sam_record(numbers):
@@ -54,7 +57,8 @@ def fasta_columns(numbers):
     return [b"".join(header) if numbers.random() < 0.3 else numbers.choice(BASES)]
 
 
-COLUMNS = {"bed": bed_columns, "named": bed_columns, "sam": sam_columns, "genome": genome_columns, "fasta": fasta_columns}
+COLUMNS = {"bed": bed_columns, "named": bed_columns, "sam": sam_columns, "genome": genome_columns,
+           "fasta": fasta_columns}
 
 
 def good_bed(numbers):
@@ -113,12 +117,13 @@ def any_bytes(numbers, form):
 
 
 def of_alphabet(numbers, form):
-    """Lines whose columns are what stands in such columns, good or not; or such pieces in any order. In half of the cases
-    they stand behind good lines."""
+    """Lines whose columns are what is in such columns, good or not; or such pieces in any order. In half of the cases
+    they come after good lines."""
     ahead = good(numbers, form) if numbers.random() < 0.5 else b""
     if numbers.random() < 0.3:
         return ahead + b"".join(numbers.choices(SOUP, k=numbers.randrange(60)))
-    return ahead + b"".join(b"\t".join(COLUMNS[form](numbers)) + numbers.choice(LINE_ENDS) for _ in range(numbers.randrange(8)))
+    count = numbers.randrange(8)
+    return ahead + b"".join(b"\t".join(COLUMNS[form](numbers)) + numbers.choice(LINE_ENDS) for _ in range(count))
 
 
 def one_changed(numbers, form):
@@ -132,29 +137,35 @@ KINDS = [any_bytes, of_alphabet, one_changed]
 
 
 def line_ahead(form, length):
-    """A line, or several, of so many bytes in all (one at least) that change nothing but the numbers of the lines behind."""
+    """A line, or several, of so many bytes in all (one at least) that change nothing but the numbers of later lines."""
     if form == "fasta":
         return b"\n" * length
     return (b"@" if form == "sam" else b"#")[: length - 1] + b"x" * (length - 2) + b"\n"
 
 
-# Lines of each format that are read in one way or another: with numbers of each length, with a strand and without, ended
-# by CR LF, by CR at the end of the text or by nothing there, blank, a header line, and at fault.
+# Lines of each format that are read in one way or another: with numbers of each length, with a strand and without,
+# ended by CR LF, by CR at the end of the text or by nothing there, blank, a header line, and at fault.
 BORDER_LINES = {
     "bed": [
         b"chr1\t5\t9\n", b"chr1\t5\t9\tx\t0\t+\n", b"chr1\t123456\t1234567\n", b"chr1\t1234567\t12345678\tx\t0\t-\n",
-        b"chr1\t12345678\t123456789\n", b"chr1\t123456789\t1234567890\tname\t5\t.\tmore\n", b"chr1\t000000000005\t999999999998\n",
-        b"chr1\t0000000000005\t0000000000009\n", b"chr1\t5\t9\r\n", b"chr1\t1234567\t12345678\tx\t0\t-\r\n", b"chr1\t5\t9", b"chr1\t5\t9\r",
-        b"# a header\n", b"track name=x\r\n", b"browser\n", b"\n", b"\r\n", b"chr1\t1234:67\t9\n", b"chr1\t5\t1234567/\n", b"chr1\t5\n",
+        b"chr1\t12345678\t123456789\n", b"chr1\t123456789\t1234567890\tname\t5\t.\tmore\n",
+        b"chr1\t000000000005\t999999999998\n",
+        b"chr1\t0000000000005\t0000000000009\n", b"chr1\t5\t9\r\n", b"chr1\t1234567\t12345678\tx\t0\t-\r\n",
+        b"chr1\t5\t9", b"chr1\t5\t9\r",
+        b"# a header\n", b"track name=x\r\n", b"browser\n", b"\n", b"\r\n", b"chr1\t1234:67\t9\n",
+        b"chr1\t5\t1234567/\n", b"chr1\t5\n",
         b"a chromosome's name of more than thirty-two bytes\t1234567\t12345678\tx\t0\t+\n",
     ],
     "sam": [
         b"r1\t0\tchr1\t3\t60\t4M\t*\t0\t0\tACGT\t*\n", b"r1\t16\tchr1\t12345678\t0\t2M3N2M\t*\t0\t0\tACGT\t*\tNM:i:0\n",
-        b"r1\t99\tchr1\t123456789\t7\t4M\t=\t5\t0\tACGT\tFFFF\r\n", b"r1\t4\t*\t0\t0\t*\t*\t0\t0\tACGT\t*\n", b"@CO\tx\n", b"\n", b"\r\n",
-        b"r1\t0\tchr1\t3\t60\t4M\t*\t0\t0\tACGT\t*", b"r1\t0\tchr1\t3\t60\t4M\t*\t0\t0\tACGT\t*\r", b"r1\t0\tchr1\t3\t60\t4M\t*\t0\n",
+        b"r1\t99\tchr1\t123456789\t7\t4M\t=\t5\t0\tACGT\tFFFF\r\n", b"r1\t4\t*\t0\t0\t*\t*\t0\t0\tACGT\t*\n",
+        b"@CO\tx\n", b"\n", b"\r\n", b"r1\t0\tchr1\t3\t60\t4M\t*\t0\t0\tACGT\t*",
+        b"r1\t0\tchr1\t3\t60\t4M\t*\t0\t0\tACGT\t*\r",
+        b"r1\t0\tchr1\t3\t60\t4M\t*\t0\n",
     ],
     "fasta": [
-        b"ACGTACGTAC\n", b"ACGTACGTAC\r\n", b"ACGT" * 15 + b"\n", b"ACGT" * 20 + b"\n", b"ACGT" * 15 + b"\r\n", b"\n", b"\r\n", b">chr2 more\n",
+        b"ACGTACGTAC\n", b"ACGTACGTAC\r\n", b"ACGT" * 15 + b"\n", b"ACGT" * 20 + b"\n", b"ACGT" * 15 + b"\r\n", b"\n",
+        b"\r\n", b">chr2 more\n",
         b">chr2\r\n", b"ACGTACGTAC", b"ACGTACGTAC\r", b">chr2",
     ],
 }
@@ -174,12 +185,14 @@ def border_texts(form):
 
 # The first nine are values of one option or another.
 WORDS = [
-    "-", "stdin", "stdout", "+", "0", "1", "1.", ".5", "0.5", "1.5", "0.5000000000", ".", "007", "999999999999", "1000000000000", "", "x",
-    "xx", "\u00e9", "\x7f", "~", "none", "a.bed", "b.bed", "g.txt", "a.sam", "a.fa", "masked.fa", "--help", "-h", "n" * 300,
+    "-", "stdin", "stdout", "+", "0", "1", "1.", ".5", "0.5", "1.5", "0.5000000000", ".", "007", "999999999999",
+    "1000000000000", "", "x", "xx", "\u00e9", "\x7f", "~", "none", "a.bed", "b.bed", "g.txt", "a.sam", "a.fa",
+    "masked.fa", "--help", "-h", "n" * 300,
 ]
 USUAL = {
     "merge": "-g g.txt", "complement": "-g g.txt -i a.bed", "genomecov": "-g g.txt -bg", "bamtobed": "-i a.sam",
-    "intersect": "-a a.bed -b b.bed -g g.txt", "subtract": "-a a.bed -b b.bed -g g.txt", "maskfasta": "-fi a.fa -bed b.bed",
+    "intersect": "-a a.bed -b b.bed -g g.txt", "subtract": "-a a.bed -b b.bed -g g.txt",
+    "maskfasta": "-fi a.fa -bed b.bed",
 }
 
 
