@@ -61,7 +61,7 @@ example: $(PROGRAM)
 	@examples/run.sh $(PROGRAM)
 
 test:
-	docs/gate.sh
+	tests/gate.sh
 
 # The further wrong bodies, which the gate doesn't try: each must be refused too. They are tried in a
 # copy, in the place of those of must-fail. `rt must-fail` leaves out what is built for tests alone: the copy has the
@@ -73,27 +73,21 @@ mutants:
 	for mutants in crates/*/mutants; do mv $$mutants $$(dirname $$mutants)/must-fail; done && \
 	rt must-fail; status=$$?; rm -rf $$copy; exit $$status
 
-# Wrong definitions, each of which has to break a worked value; docs/definitions.txt gets what breaks.
+# Wrong definitions, each of which has to break a worked value; tests/definitions/definitions.txt gets what breaks.
 definitions:
-	docs/definitions.py --write
+	tests/definitions/definitions.py --write
 
-# The shell examples of the pages and of docs/cases write what is below them, the example on each crate's first page is its
-# test, each link leads somewhere, tables of rows are those of their files, each call that allocates has its test, the completions
-# have the options of the pages, no page is harder to read than before, and tables and charts of the bench are those of its results.
+# The shell examples of the pages and of tests/pages/cases write what is below them, the example on each crate's first page is its
+# test, each link leads somewhere, each file that a tool writes is what it would write, each call that allocates has its test,
+# wrong bodies and wrong definitions fit the code, and tables and charts of the bench are those of its results.
 check-docs: $(PROGRAM)
-	docs/examples.py
-	docs/edits.py
-	docs/links.py
-	docs/migrating.py
-	docs/clauses.py --check
-	docs/completions.py
-	docs/manuals.py
-	docs/prose.py
+	$(UNITTEST) -s tests/pages
+	$(UNITTEST) -s tests/definitions
 	bench/results.py
 
 # Closed standard streams, full disks, directories: what no proof says of real files. Then memory that runs out, in small address
-# spaces and with each growth refused; large sizes; what is allocated over many records; random bytes; and the laws of
-# docs/PIPES.md on random inputs.
+# spaces and with each growth refused, also in the tests of crates; large sizes; what is allocated over many records; random
+# bytes; and the laws of docs/PIPES.md on random inputs.
 check-program: $(PROGRAM)
 	$(UNITTEST) -s tests/program
 
@@ -128,11 +122,11 @@ check-packages: $(PROGRAM)
 	packaging/check.sh
 
 pictures:
-	docs/pictures.py
+	tools/pictures.py
 
 completions:
-	docs/completions.py --write
-	docs/manuals.py --write
+	tools/completions.py
+	tools/manuals.py
 
 # The manual pages and the completions get the program's name there.
 install: $(PROGRAM)

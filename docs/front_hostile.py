@@ -20,10 +20,10 @@ import tempfile
 import time
 from pathlib import Path
 
-from examples import examples_of
 from front_faults import try_faults
 from front_hints import FILES, MERGED, fill, try_help, try_hints, try_names
 from front_tools import TOP, Count, PROGRAM, call, drop_in, install, is_busy, looking, original, shell, tools_alone
+from tests.pages.test_examples import examples_of
 
 
 def try_originals(place, folder, count):
@@ -481,9 +481,9 @@ def try_page(place, folder, count):
     made = folder.parent / "page"
     made.mkdir()
     env = looking(drop_in(place), place / "bin")
-    for number, command, wanted in examples_of((TOP / "docs" / "cases" / "front.txt").read_text(encoding="utf-8")):
-        output, said, _ = shell(command, made, env)
-        count.expect(f"front.txt:{number}: {command}", wanted, (output.decode() + said).splitlines())
+    for one in examples_of((TOP / "tests" / "pages" / "cases" / "front.txt").read_text(encoding="utf-8")):
+        output, said, _ = shell(one.command, made, env)
+        count.expect(f"front.txt:{one.number}: {one.command}", one.wanted, (output.decode() + said).splitlines())
 
 
 def show_costs(place, folder):

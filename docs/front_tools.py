@@ -7,10 +7,13 @@ import re
 import shutil
 import signal
 import subprocess
+import sys
 import time
 from pathlib import Path
 
 TOP = Path(__file__).resolve().parent.parent
+# Where the tests of pages and the tools are.
+sys.path[:0] = [str(TOP), str(TOP / "tools")]
 PROGRAM = TOP / "bin" / "bedtools"
 # Who took a command line, as DUNEKETTLE_TELL says it.
 TOLD = re.compile(r"^dunekettle: (.*?) takes (\w*)", re.MULTILINE)

@@ -1,16 +1,17 @@
 #!/usr/bin/env python3
 """Tries wrong definitions: each has to break a worked value.
 
-    docs/definitions.py [--write] [--jobs N] [WORD ..]
-    docs/definitions.py --make FOLDER
+    tests/definitions/definitions.py [--write] [--jobs N] [WORD ..]
+    tests/definitions/definitions.py --make FOLDER
 
-A small crate gets the definitions of crates/*/specs/model, the types that they name, and the worked values of bt_laws. It is
-proved. Then each change of definitions.edits is made in a copy, of those whose names have one of the words, and `rt check`
-says which values aren't what they were. A row has the file, the definition, the change and the values. With --write the rows
-go to definitions.txt.
+A small crate gets the definitions of crates/*/specs/model, the types that they name, and the worked values of bt_laws.
+It is proved. Then each change of definitions.edits is made in a copy, of those whose names have one of the words, and
+`rt check` says which values aren't what they were. A row has the file, the definition, the change and the values. With
+--write the rows go to definitions.txt.
 
-A change whose name begins with `control: ` means the same as before and has to break no value: what breaks one isn't that a
-changed definition can't be computed. Ends with 1 where a change can't be made or read, or the wrong ones break no value.
+A change whose name begins with `control: ` means the same as before and has to break no value: what breaks one isn't
+that a changed definition can't be computed. Ends with 1 where a change can't be made or read, or the wrong ones break
+no value.
 """
 
 import argparse
@@ -22,19 +23,24 @@ import tempfile
 from concurrent.futures import ThreadPoolExecutor
 from pathlib import Path
 
-DOCS = Path(__file__).resolve().parent
-CRATES = DOCS.parent / "crates"
-EDITS = DOCS / "definitions.edits"
-TABLE = DOCS / "definitions.txt"
+HERE = Path(__file__).resolve().parent
+CRATES = HERE.parents[1] / "crates"
+EDITS = HERE / "definitions.edits"
+TABLE = HERE / "definitions.txt"
 # The crates with definitions.
 MODELS = ("bt_lines", "bt_bed", "bt_runs", "bt_sweep", "bt_seq", "bt_tool")
 # The definitions of those crates, of the worked values, and of the scan for intervals of equal depth.
-SPECS = ("*/specs/model/*.antt", "bt_laws/specs/WholeRuns.antt", "bt_laws/specs/Worked.antt", "bt_bed/specs/calls/LevelScan.antt")
+SPECS = ("*/specs/model/*.antt", "bt_laws/specs/WholeRuns.antt", "bt_laws/specs/Worked.antt",
+         "bt_bed/specs/calls/LevelScan.antt")
 LEMMAS = ("bt_lines/proofs/Std.antt", "bt_bed/proofs/lemmas/LevelScans.antt")
 HEAD = "# What definitions.py writes: file | definition | wrong variant | the worked values that it breaks\n"
 
-# The root of the small crate. A definition may not name a proof of its own crate, as that of depths does: it names the scan, of
-# which this function says that it finds the one list.
+# What a check says of a value that isn't what it was.
+BROKEN = re.compile(r"^\./proofs/(?:\w+/)*(\w+)/Answers\.antt:\d+:\d+: error: `returns-clause-(\w+)`: [^\n]*\btypes?\b",
+                    re.MULTILINE)
+
+# The root of the small crate. A definition may not name a proof of its own crate, as that of depths does: it names the
+# scan, of which this function says that it finds the one list.
 ROOT = """//! Definitions and worked values.
 #![tactic(auto)]
 
@@ -48,7 +54,10 @@ ghost use Rattle.definitions.specs.bt_bed.Levels.{AreLevelsOf, Level};
 
 pub fn levels()
     ensures are { (value : ℕ → Option ℕ) (size : ℕ) → AreLevelsOf value size (scanned value size) }
-    ensures only { (value : ℕ → Option ℕ) (size : ℕ) (levels : List Level) → AreLevelsOf value size levels → levels ≡ scanned value size }
+    ensures only {
+        (value : ℕ → Option ℕ) (size : ℕ) (levels : List Level)
+        → AreLevelsOf value size levels → levels ≡ scanned value size
+    }
 {}
 """
 LEVELS_ANSWERS = """use Rattle.definitions.proofs.LevelScans.{are_scanned, only_scanned}
@@ -63,8 +72,9 @@ returns-clause-only c = only_scanned
 
 
 def renamed(text):
-    """The text of a file, with the paths of the small crate: all types stand in `types`, and the definitions of a crate in a folder."""
-    text = re.sub(r"Rattle\.bt_\w+\.specs\.declared\.[a-z_.]+\.([A-Z])", r"Rattle.definitions.specs.declared.types.\1", text)
+    """The text of a file, with the paths of the small crate: all types are in `types`, definitions by their crates."""
+    declared = r"Rattle\.bt_\w+\.specs\.declared\.[a-z_.]+\.([A-Z])"
+    text = re.sub(declared, r"Rattle.definitions.specs.declared.types.\1", text)
     text = re.sub(r"Rattle\.(bt_\w+)\.specs\.(?:model\.|calls\.)?", r"Rattle.definitions.specs.\1.", text)
     text = re.sub(r"Rattle\.bt_\w+\.proofs\.(?:lemmas\.)?", "Rattle.definitions.proofs.", text)
     text = re.sub(r"\b(bt_\w+)::specs::model::", r"crate::specs::\1::", text)
@@ -188,11 +198,12 @@ def make_changes(crate, changes):
 
 def broken_values(said):
     """The worked values that aren't what they were, by what a check says."""
-    found = re.findall(r"^\./proofs/(?:\w+/)*(\w+)/Answers\.antt:\d+:\d+: error: `returns-clause-(\w+)`: [^\n]*\btypes?\b", said, re.M)
+    found = BROKEN.findall(said)
     # Values that have no answer of their own are in notes, before the line of their function.
     for notes, function in re.findall(r"((?:^note: [^\n]*\n)+)fn definitions::(?:\w+::)*(\w+): ", said, re.M):
         found += [(function, goal) for goal in re.findall(r"it is not proved [^\n]*\(`returns-clause-(\w+)`\)", notes)]
-    found += [("levels", lemma) for lemma in re.findall(r"^\./proofs/LevelScans\.antt:\d+:\d+: error: `(\w+)`", said, re.M)]
+    lemmas = re.findall(r"^\./proofs/LevelScans\.antt:\d+:\d+: error: `(\w+)`", said, re.M)
+    found += [("levels", lemma) for lemma in lemmas]
     return sorted(f"{function}: {goal}" for function, goal in set(found))
 
 
@@ -248,7 +259,8 @@ def main():
     if said.make:
         make(Path(said.make))
         return 0
-    found = {name: changes for name, changes in edits().items() if not said.words or any(word in name for word in said.words)}
+    found = {name: changes for name, changes in edits().items()
+             if not said.words or any(word in name for word in said.words)}
     rows = try_all(found, said.jobs)
     if rows is None:
         print("the worked values themselves aren't proved")

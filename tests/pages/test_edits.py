@@ -1,14 +1,15 @@
-#!/usr/bin/env python3
-"""Checks that the refused edits of must-fail/ and mutants/ fit the code, and prints a line for each problem.
+"""The refused edits of must-fail/ and mutants/ fit the code.
 
-An edit has lines 'file: NAME', and after each of them pairs of lines 'old: TEXT' and 'new: TEXT'. The file exists in the
-edit's crate, each old TEXT occurs in it exactly once, the new TEXT is another, and no two edits of a crate make the same
-change.
+An edit has lines 'file: NAME', and after each of them pairs of lines 'old: TEXT' and 'new: TEXT'. The file exists in
+the edit's crate, each old TEXT occurs in it exactly once, the new TEXT is another, and no two edits of a crate make the
+same change.
 """
-import sys
-from pathlib import Path
 
-CRATES = Path(__file__).resolve().parent.parent / "crates"
+from typing import NamedTuple
+
+from tests.support import TOP, Counted, each
+
+CRATES = TOP / "crates"
 
 
 def changes_of(path):
@@ -45,18 +46,21 @@ def problems_of(crate, path, seen):
     return found
 
 
-def main():
-    count, problems = 0, []
-    for crate in sorted(CRATES.iterdir()):
-        seen = {}
-        for path in sorted(crate.glob("must-fail/*.edit")) + sorted(crate.glob("mutants/*.edit")):
-            count += 1
-            problems += [f"{path.relative_to(CRATES.parent)}: {problem}" for problem in problems_of(crate, path, seen)]
-    for problem in problems:
-        print(problem)
-    print(f"{count} refused edits, {len(problems)} problems")
-    return 1 if problems or not count else 0
+class Crate(NamedTuple):
+    """A crate, by its name."""
+
+    name: str
 
 
-if __name__ == "__main__":
-    sys.exit(main())
+@each([Crate(folder.name) for folder in sorted(CRATES.iterdir())])
+class Edits(Counted):
+    said = "{edits} refused edits"
+
+    def case(self, crate):
+        folder, seen, found = CRATES / crate.name, {}, []
+        for path in sorted(folder.glob("must-fail/*.edit")) + sorted(folder.glob("mutants/*.edit")):
+            self.counts["edits"] += 1
+            problems = problems_of(folder, path, seen)
+            found += [f"{path.relative_to(CRATES.parent)}: {problem}" for problem in problems]
+        if found:
+            self.fail("\n".join(["", *found]))

@@ -1,22 +1,20 @@
 #!/usr/bin/env python3
-"""Makes of front/options.txt the help of `dunekettle`, the tables of options in COMMANDS.md, and the completions for bash,
-zsh and fish of the program and of its front. docs/manuals.py makes the manual pages of the commands.
-
-    docs/completions.py            sees that these files have what would be made
-    docs/completions.py --write    writes them
+"""Writes, by front/options.txt, the help of `dunekettle`, the tables of options in COMMANDS.md, and the completions for
+bash, zsh and fish of the program and of its front. manuals.py writes the manual pages of the commands.
 
 Each line of front/options.txt is a command, or an option of one: its word, its value, its default and a line of
-help. Completions have that up to its first colon or semicolon. COMMANDS.md has to have an example of each option; how
-a command is called is taken from there, and the version from CHANGELOG.md. `make install` puts its NAME into the files. Ends with 1 if one differs, or an option has no example.
+help. Completions have that up to its first colon or semicolon. How a command is called is taken from COMMANDS.md, and
+the version from CHANGELOG.md. `make install` puts its NAME into the files.
 """
 
 import re
 import sys
-from pathlib import Path
 
-TOP = Path(__file__).resolve().parent.parent
+from files import read, write
+
 NAME = "dunekettle-bedtools"
 FRONT = "dunekettle"
+COMMANDS = "docs/COMMANDS.md"
 FILES = ("FILE", "GENOME", "FASTA", "BED")
 # What the front has beside the commands: its word, and what it does.
 OWN = {"help": "shows the options of a command", "check": "says whether the commands can take a file, and why not",
@@ -27,11 +25,13 @@ CHECK = [("-g", "GENOME", "", "the order of the chromosomes"), ("--json", "", ""
 CHECK_END = ("--", "", "", "all that follows is a file, also if it begins with a dash")
 VARIABLES = {
     "DUNEKETTLE_HINTS=0": "dunekettle gives no hints, and becomes the program",
-    "DUNEKETTLE_TELL=1": "the drop-in says which program takes a command line, and why; a path instead of 1 is a file for it, which report reads",
+    "DUNEKETTLE_TELL=1": "the drop-in says which program takes a command line, and why; a path instead of 1 is a file"
+                         " for it, which report reads",
     "DUNEKETTLE_ALWAYS=1": "the drop-in never asks the original",
     "DUNEKETTLE_STREAMS=1": "the drop-in takes standard input and pipes as sorted BED without odd lines",
     "DUNEKETTLE_ROOM=0": "the drop-in copies no stream; a number of bytes instead of 0 is how much of one it copies",
-    "DUNEKETTLE_SMALL=0": "the drop-in looks at the smallest inputs too; a number of bytes instead of 0 is from where on",
+    "DUNEKETTLE_SMALL=0": "the drop-in looks at the smallest inputs too; a number of bytes instead of 0 is from where"
+                          " on",
 }
 WIDTH = 80
 # A table of options in COMMANDS.md, and what that page says once, above all of them.
@@ -42,7 +42,7 @@ SAID = ("; - or stdin is standard input", ": a genome file or a .fai index")
 def read_options():
     """The kit, and the commands: each with what it does, and its options as word, value, default and text."""
     kit, commands = "", {}
-    for line in (TOP / "front" / "options.txt").read_text(encoding="utf-8").splitlines():
+    for line in read("front/options.txt").splitlines():
         if line.startswith("#"):
             continue
         command, option, value, default, text = line.split("\t")
@@ -57,7 +57,7 @@ def read_options():
 
 def sections(commands):
     """The part of COMMANDS.md of each command."""
-    page = (TOP / "docs" / "COMMANDS.md").read_text(encoding="utf-8")
+    page = read(COMMANDS)
     return {command: page.split(f"\n## {command}\n", 1)[1].split("\n## ", 1)[0] for command in commands}
 
 
@@ -69,7 +69,7 @@ def synopsis(command, section):
 
 def version():
     """The version, from CHANGELOG.md."""
-    return re.search(r"^## (\S+)", (TOP / "CHANGELOG.md").read_text(encoding="utf-8"), re.MULTILINE)[1]
+    return re.search(r"^## (\S+)", read("CHANGELOG.md"), re.MULTILINE)[1]
 
 
 def without_example(commands):
@@ -81,7 +81,7 @@ def without_example(commands):
 
 
 def as_code(text, value):
-    """A line of help for a page: options, files and the letter of a value as code, and without what the page says once."""
+    """A line of help for a page: options, files and the letter of a value as code, without what the page says once."""
     for said in SAID:
         text = text.replace(said, "")
     letter = rf"|\b{value}\b" if len(value) == 1 else ""
@@ -101,16 +101,16 @@ def table(options):
 
 def with_tables(commands):
     """COMMANDS.md with the tables of options."""
-    page = (TOP / "docs" / "COMMANDS.md").read_text(encoding="utf-8")
+    page = read(COMMANDS)
     for command, section in sections(commands).items():
         page = page.replace(section, TABLE.sub(lambda _: table(commands[command][1]), section))
     return page
 
 
-def help_text(kit, commands):
-    """The help of the front: a part for each command, behind a line that begins with a percent sign."""
-    lines = [f"Dunekettle {version()}", "% version", f"Dunekettle {version()}, proved with {kit}", f"commands: {' '.join(commands)}",
-             "% dunekettle",
+def own_help(kit, commands):
+    """The help of the front itself."""
+    lines = [f"Dunekettle {version()}", "% version", f"Dunekettle {version()}, proved with {kit}",
+             f"commands: {' '.join(commands)}", "% dunekettle",
              "dunekettle COMMAND [OPTION..]            runs a command; a hint may follow its error",
              "dunekettle help COMMAND                  the options of a command, also COMMAND --help",
              "dunekettle check FILE.. [-g GENOME] [--json]",
@@ -118,27 +118,49 @@ def help_text(kit, commands):
              "dunekettle report FILE                   what DUNEKETTLE_TELL=FILE wrote, in all",
              "dunekettle --version                     the version, the kit and the commands", "",
              "Input is sorted by chromosome and start: LC_ALL=C sort -k1,1 -k2,2n", ""]
-    calls = {command: f"{FRONT} {synopsis(command, section)}" for command, section in sections(commands).items()}
     for command, (purpose, _) in commands.items():
         lines += wrapped(f"{command:<12}", purpose)
     lines += ["", "Environment:"]
     for variable, text in VARIABLES.items():
         lines += wrapped(f"  {variable:<22}", text)
-    lines += ["", "Pages: man dunekettle-merge, and so for each command; man dunekettle; and the", f"folder share/doc/{NAME} of the installation."]
-    for command, (purpose, options) in commands.items():
-        lines += [f"% {command}", *wrapped("", calls[command], "    "), "", *wrapped("", purpose[0].upper() + purpose[1:] + "."), ""]
-        for option, value, default, text in options:
-            lines += wrapped(f"  {(option + ' ' + value).rstrip():<15}", f"{text} [{default}]")
-    lines += ["% check", "dunekettle check FILE.. [-g GENOME] [--json]", "",
-              *wrapped("", "Says of each file of what kind it is, by which order it is sorted, and what it has: header lines, blank "
-                       "lines, CR LF, records without a strand; then which names the files don't share. Status 0 if the seven "
-                       "commands can take them all, else 1."), ""]
+    return [*lines, "", "Pages: man dunekettle-merge, and so for each command; man dunekettle; and the",
+            f"folder share/doc/{NAME} of the installation."]
+
+
+def command_help(purpose, options, call):
+    """The help of a command."""
+    lines = [*wrapped("", call, "    "), "", *wrapped("", purpose[0].upper() + purpose[1:] + "."), ""]
+    for option, value, default, text in options:
+        lines += wrapped(f"  {(option + ' ' + value).rstrip():<15}", f"{text} [{default}]")
+    return lines
+
+
+def check_help():
+    """The help of `check`."""
+    lines = ["dunekettle check FILE.. [-g GENOME] [--json]", "",
+             *wrapped("", "Says of each file of what kind it is, by which order it is sorted, and what it has: header "
+                      "lines, blank lines, CR LF, records without a strand; then which names the files don't share. "
+                      "Status 0 if the seven commands can take them all, else 1."), ""]
     for option, value, _, text in [*CHECK, CHECK_END]:
         lines += wrapped(f"  {(option + ' ' + value).rstrip():<15}", text)
-    lines += ["% report", "dunekettle report FILE", "",
-              *wrapped("", "Reads the file that DUNEKETTLE_TELL names, which has a line for each call of the drop-in, and says how many "
-                       "calls there were, how many of them Dunekettle took, and why not the others. Status 1 if it has no call.")]
     return lines
+
+
+def report_help():
+    """The help of `report`."""
+    return ["dunekettle report FILE", "",
+            *wrapped("", "Reads the file that DUNEKETTLE_TELL names, which has a line for each call of the drop-in, "
+                     "and says how many calls there were, how many of them Dunekettle took, and why not the others. "
+                     "Status 1 if it has no call.")]
+
+
+def help_text(kit, commands):
+    """The help of the front: a part for each command, behind a line that begins with a percent sign."""
+    calls = {command: f"{FRONT} {synopsis(command, section)}" for command, section in sections(commands).items()}
+    lines = own_help(kit, commands)
+    for command, (purpose, options) in commands.items():
+        lines += [f"% {command}", *command_help(purpose, options, calls[command])]
+    return [*lines, "% check", *check_help(), "% report", *report_help()]
 
 
 def wrapped(lead, text, indent=None):
@@ -172,7 +194,7 @@ def all_words(name, commands):
 def bash_file(name, commands):
     """Where several words are left, bash lists each with its text; a single one is put in without it."""
     function = "_" + name.replace("-", "_")
-    lines = [f"# Completions of {name} for bash, made by docs/completions.py.",
+    lines = [f"# Completions of {name} for bash, made by tools/completions.py.",
              f"{function}() {{",
              "    local word=${COMP_WORDS[COMP_CWORD]} command=${COMP_WORDS[1]-} line lines=()",
              "    COMPREPLY=()",
@@ -206,7 +228,7 @@ def bash_file(name, commands):
 def zsh_file(name, commands):
     """The words behind the command are taken as those of a program of its own."""
     words = all_words(name, commands)
-    lines = [f"#compdef {name}", f"# Completions of {name} for zsh, made by docs/completions.py.",
+    lines = [f"#compdef {name}", f"# Completions of {name} for zsh, made by tools/completions.py.",
              "local -a commands", "commands=("]
     lines += [f"    {quoted(f'{command}:{purpose}')}" for command, (purpose, _) in words.items()]
     lines += [")", "if ((CURRENT == 2)); then", "    _describe command commands", "    return", "fi",
@@ -233,7 +255,7 @@ def zsh_option(option, value, text):
 def fish_file(name, commands):
     """fish knows options of one hyphen and several letters as old ones."""
     words = all_words(name, commands)
-    lines = [f"# Completions of {name} for fish, made by docs/completions.py.", f"complete -c {name} -f"]
+    lines = [f"# Completions of {name} for fish, made by tools/completions.py.", f"complete -c {name} -f"]
     for command, (purpose, _) in words.items():
         lines.append(f"complete -c {name} -n __fish_use_subcommand -a {command} -d {fish_quoted(purpose)}")
     if name == FRONT:
@@ -243,7 +265,8 @@ def fish_file(name, commands):
         for option, value, _, text in options:
             how = {"file": " -r -F", "strand": " -x -a '+ -'", "other": " -x", "none": ""}[kind_of(value)]
             word = f"-l {option[2:]}" if option.startswith("--") else f"-o {option[1:]}"
-            lines.append(f"complete -c {name} -n '__fish_seen_subcommand_from {command}' {word}{how} -d {fish_quoted(text)}")
+            at = f"-n '__fish_seen_subcommand_from {command}'"
+            lines.append(f"complete -c {name} {at} {word}{how} -d {fish_quoted(text)}")
     return lines
 
 
@@ -269,38 +292,18 @@ def fish_quoted(text):
     return "'" + text.replace("\\", "\\\\").replace("'", "\\'") + "'"
 
 
-def made(kit, commands):
+def made():
     """Each file and its text."""
+    kit, commands = read_options()
     files = {"front/help.txt": help_text(kit, commands)}
-    short = {command: (purpose, [(*words, text_of(text)) for *words, text in options]) for command, (purpose, options) in commands.items()}
+    short = {command: (purpose, [(*words, text_of(text)) for *words, text in options])
+             for command, (purpose, options) in commands.items()}
     for name in (NAME, FRONT):
         for shell, lines in (("bash", bash_file), ("zsh", zsh_file), ("fish", fish_file)):
             files[f"completions/{name}.{shell}"] = lines(name, short)
     texts = {name: "".join(f"{line}\n" for line in lines) for name, lines in files.items()}
-    return {**texts, "docs/COMMANDS.md": with_tables(commands)}
-
-
-def main():
-    kit, commands = read_options()
-    wrong = 0
-    files = made(kit, commands)
-    for name, text in files.items():
-        file = TOP / name
-        if "--write" in sys.argv[1:]:
-            file.parent.mkdir(exist_ok=True)
-            file.write_text(text, encoding="utf-8")
-        elif not file.exists() or file.read_text(encoding="utf-8") != text:
-            wrong += 1
-            print(f"{name} isn't what front/options.txt says: docs/completions.py --write")
-    kits = set(re.findall(r"rattle-kit-\w+", (TOP / "README.md").read_text(encoding="utf-8"))) - {kit}
-    for other in sorted(kits):
-        print(f"README.md names {other}, and front/options.txt {kit}")
-    bare = list(without_example(commands))
-    for option in bare:
-        print(f"docs/COMMANDS.md: no example of {option}")
-    print(f"{len(files)} files of help, options and completions, {wrong} of them differ")
-    return 1 if wrong or kits or bare else 0
+    return {**texts, COMMANDS: with_tables(commands)}
 
 
 if __name__ == "__main__":
-    sys.exit(main())
+    sys.exit(write(made()))

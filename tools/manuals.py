@@ -1,18 +1,15 @@
 #!/usr/bin/env python3
-"""Makes a manual page of each command: man/dunekettle-COMMAND.1, of its part of COMMANDS.md and of front/options.txt.
-
-    docs/manuals.py            fails if a page isn't that of these files
-    docs/manuals.py --write    writes them
+"""Writes a manual page of each command: man/dunekettle-COMMAND.1, by its part of COMMANDS.md and by front/options.txt.
 
 Text, lists and examples are those of COMMANDS.md, without pictures and tables; the options are those of options.txt. An
 example that reads a file of an earlier command begins with the lines that make it. The date is that of man/bedtools.1.
-Ends with 1 if one differs.
 """
 
 import re
 import sys
 
-from completions import NAME, TOP, default_in_words, read_options, sections, synopsis, version
+from completions import COMMANDS, NAME, default_in_words, read_options, sections, synopsis, version
+from files import read, write
 
 # Pieces of a paragraph: code, and a link, of which the text is left.
 LINK = re.compile(r"\[([^\]]*)\]\([^)]*\)")
@@ -45,14 +42,14 @@ def words(text):
 
 def files_before(section):
     """The files that the examples of COMMANDS.md before a section make, each with the lines that do."""
-    text, made = (TOP / "docs" / "COMMANDS.md").read_text(encoding="utf-8"), {}
+    text, made = read(COMMANDS), {}
     for match in MAKES.finditer(text[:text.index(section)]):
         made[match[2]] = [*(made.get(match[2], []) if match[1] == ">>" else []), match[0]]
     return made
 
 
 def missing(block, made):
-    """The lines that make the files which a block reads, if none before it has. What it makes itself is missing no more."""
+    """The lines that make the files which a block reads, if none before it has. What it makes itself isn't missing."""
     lines = []
     for name in list(made):
         if re.search(rf"(?<![\w./]){re.escape(name)}(?![\w.])", "\n".join(block)):
@@ -95,20 +92,36 @@ def body(section, made):
 
 # What ends a command with status 1.
 ERROR = "An error of an input, of reading or writing, or of memory"
+# What ends each page: its parts after the examples, and what the installation has besides.
+SEE_ALSO = [".Sh SEE ALSO", f".Xr {NAME} 1 ,", ".Xr dunekettle 1", ".Pp"]
+PAGES = [".Pa docs/COMMANDS.md", "has pictures too,", ".Pa docs/ERRORS.md", "each message,", ".Pa docs/MIGRATING.md",
+         "what differs from bedtools 2.30.0."]
+
+
+def statuses(has_limit):
+    """The part on the exit status: with what the limit of kept records does, if there is one."""
+    error = f"{ERROR}, or more records than -held allows." if has_limit else f"{ERROR}."
+    return [".Sh EXIT STATUS", ".Bl -tag -width Ds", ".It 0", "All output was written.", ".It 1", error, ".It 2",
+            "The command line can't be used.", ".El"]
+
+
+def option_lines(options):
+    """The part on the options."""
+    lines = [".Sh OPTIONS", ".Bl -tag -width Ds"]
+    for option, value, default, text in options:
+        lines += [f".It \\fB{escaped(option)}\\fP {value}".rstrip(), f"{text[0].upper()}{text[1:]}."]
+        lines += [default_in_words(default)] if default not in ("off", "on") else []
+    return [*lines, ".El"]
 
 
 def manual(command, purpose, options, section, date):
     """The text of a command's page."""
-    made = files_before(section)
-    lines = [f".Dd {date}", f".Dt DUNEKETTLE-{command.upper()} 1", ".Os", ".Sh NAME", f".Nm dunekettle-{command}", f".Nd {purpose}", ".Sh SYNOPSIS",
-             escaped(f"dunekettle {synopsis(command, section)}"), ".Sh DESCRIPTION", *body(section.split("\n| option |")[0], made), ".Sh OPTIONS", ".Bl -tag -width Ds"]
-    for option, value, default, text in options:
-        lines += [f".It \\fB{escaped(option)}\\fP {value}".rstrip(), f"{text[0].upper()}{text[1:]}."]
-        lines += [default_in_words(default)] if default not in ("off", "on") else []
-    lines += [".El", ".Sh EXAMPLES", *body("\n\n".join(section.split("\n\n")[options_end(section):]), made), ".Sh EXIT STATUS", ".Bl -tag -width Ds",
-              ".It 0", "All output was written.", ".It 1", f"{ERROR}, or more records than -held allows." if "-held" in synopsis(command, section) else f"{ERROR}.", ".It 2", "The command line can't be used.", ".El",
-              ".Sh SEE ALSO", f".Xr {NAME} 1 ,", ".Xr dunekettle 1", ".Pp", f"This page is that of Dunekettle {version()}.", ".Pa docs/COMMANDS.md",
-              "has pictures too,", ".Pa docs/ERRORS.md", "each message,", ".Pa docs/MIGRATING.md", "what differs from bedtools 2.30.0."]
+    made, call = files_before(section), synopsis(command, section)
+    lines = [f".Dd {date}", f".Dt DUNEKETTLE-{command.upper()} 1", ".Os", ".Sh NAME", f".Nm dunekettle-{command}",
+             f".Nd {purpose}", ".Sh SYNOPSIS", escaped(f"dunekettle {call}"), ".Sh DESCRIPTION",
+             *body(section.split("\n| option |")[0], made), *option_lines(options), ".Sh EXAMPLES"]
+    lines += body("\n\n".join(section.split("\n\n")[options_end(section):]), made)
+    lines += [*statuses("-held" in call), *SEE_ALSO, f"This page is that of Dunekettle {version()}.", *PAGES]
     return "".join(f"{line}\n" for line in lines)
 
 
@@ -118,22 +131,14 @@ def options_end(section):
     return next(at for at, part in enumerate(parts) if part.startswith("| option |")) + 1
 
 
-def main():
+def made():
+    """Each page and its text."""
     _, commands = read_options()
     parts = sections(commands)
-    date = re.search(r"^\.Dd (.*)", (TOP / "man" / "bedtools.1").read_text(encoding="utf-8"))[1]
-    wrong = 0
-    for command, (purpose, options) in commands.items():
-        file = TOP / "man" / f"dunekettle-{command}.1"
-        text = manual(command, purpose, options, parts[command], date)
-        if "--write" in sys.argv[1:]:
-            file.write_text(text, encoding="utf-8")
-        elif not file.exists() or file.read_text(encoding="utf-8") != text:
-            wrong += 1
-            print(f"man/{file.name} isn't that of COMMANDS.md and front/options.txt: docs/manuals.py --write")
-    print(f"{len(commands)} manual pages, {wrong} of them differ")
-    return 1 if wrong else 0
+    date = re.search(r"^\.Dd (.*)", read("man/bedtools.1"))[1]
+    return {f"man/dunekettle-{command}.1": manual(command, purpose, options, parts[command], date)
+            for command, (purpose, options) in commands.items()}
 
 
 if __name__ == "__main__":
-    sys.exit(main())
+    sys.exit(write(made()))

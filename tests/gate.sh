@@ -7,7 +7,7 @@ exec < /dev/null
 rt ci 2>&1 | tee bin/gate.log | sed '$d'
 status=${PIPESTATUS[0]}
 if [ "$status" -eq 0 ]; then
-    make --no-print-directory built check-docs check-program || status=1
+    EVERY_TEST=1 make --no-print-directory built check-docs check-program || status=1
 fi
 [ "$status" -eq 0 ] || echo "FAILED: the gate"
 tail -n 1 bin/gate.log
