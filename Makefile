@@ -28,7 +28,7 @@ LOG := bin/build.log
 SOURCES := crates.txt $(shell find crates -name out -prune -o -type f \( -name '*.rt' -o -name '*.antt' \) -print)
 
 DOCS := README.md CHANGELOG.md LICENSE $(wildcard docs/*.md docs/*.svg) $(wildcard bench/*.md bench/*.svg) \
-	docs/differences.tsv docs/front_costs.tsv docs/front_pipelines.tsv bench/odd.tsv bench/results.tsv \
+	tests/differences/differences.tsv docs/front_costs.tsv docs/front_pipelines.tsv bench/odd.tsv bench/results.tsv \
 	CITATION.cff $(shell find examples/shards examples/recipes -type f)
 
 .PHONY: all built example test mutants definitions check-docs check-program check-speed check-differences check-front check-shards \
@@ -95,10 +95,10 @@ check-program: $(PROGRAM)
 check-speed: $(PROGRAM)
 	bench/compare.py --check
 
-# The rows of docs/differences.tsv and of docs/options.tsv, and the scripts of examples/recipes, tried with the program and
+# The rows of differences.tsv and of options.tsv in tests/differences, and the scripts of examples/recipes, tried with the program and
 # with the bedtools 2.30.0 on PATH.
 check-differences: $(PROGRAM)
-	docs/differences.py
+	$(UNITTEST) -s tests/differences
 	docs/recipes.py
 
 # The front and the drop-in: hostile cases, streams and the temporary folder, random command lines, what calls cost, and

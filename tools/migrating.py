@@ -19,7 +19,7 @@ from typing import NamedTuple
 from files import TOP, read, rows, write
 
 PAGE = "docs/MIGRATING.md"
-DIFFERENCES, OPTIONS = "docs/differences.tsv", "tests/differences/options.tsv"
+DIFFERENCES, OPTIONS = "tests/differences/differences.tsv", "tests/differences/options.tsv"
 SCRIPTS = TOP / "examples" / "recipes"
 # The hints of `dunekettle` on options that aren't taken.
 INSTEAD = "front/instead.txt"
