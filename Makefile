@@ -28,8 +28,8 @@ LOG := bin/build.log
 SOURCES := crates.txt $(shell find crates -name out -prune -o -type f \( -name '*.rt' -o -name '*.antt' \) -print)
 
 DOCS := README.md CHANGELOG.md LICENSE $(wildcard docs/*.md docs/*.svg) $(wildcard bench/*.md bench/*.svg) \
-	tests/differences/differences.tsv docs/front_costs.tsv docs/front_pipelines.tsv bench/odd.tsv bench/results.tsv \
-	CITATION.cff $(shell find examples/shards examples/recipes -type f)
+	tests/differences/differences.tsv tests/drop_in/front_costs.tsv tests/drop_in/front_pipelines.tsv bench/odd.tsv bench/results.tsv \
+	CITATION.cff $(shell find shards recipes -type f)
 
 .PHONY: all built example test mutants definitions check-docs check-program check-speed check-differences check-front check-shards \
 	check-packages pictures completions install uninstall dist deb clean
@@ -95,31 +95,31 @@ check-program: $(PROGRAM)
 check-speed: $(PROGRAM)
 	bench/compare.py --check
 
-# The rows of differences.tsv and of options.tsv in tests/differences, and the scripts of examples/recipes, tried with the program and
+# The rows of differences.tsv and of options.tsv in tests/differences, and the scripts of recipes/, tried with the program and
 # with the bedtools 2.30.0 on PATH.
 check-differences: $(PROGRAM)
 	$(UNITTEST) -s tests/differences
-	docs/recipes.py
+	tests/recipes/recipes.py
 
 # The front and the drop-in: hostile cases, streams and the temporary folder, random command lines, what calls cost, and
 # pipelines, unchanged, with the drop-in first on PATH.
 check-front: $(PROGRAM)
 	! command -v shellcheck > /dev/null || \
-	shellcheck -x front/dunekettle front/*.sh packaging/*.sh docs/front/*.sh examples/recipes/*.sh
-	docs/front_hostile.py
-	docs/front_streams.py
-	docs/front_random.py
-	docs/front_rules.py
-	docs/front_costs.py
-	docs/front.py
+	shellcheck -x front/dunekettle front/*.sh packaging/*.sh tests/packages/*.sh tests/drop_in/pipelines/*.sh recipes/*.sh
+	tests/drop_in/front_hostile.py
+	tests/drop_in/front_streams.py
+	tests/drop_in/front_random.py
+	tests/drop_in/front_rules.py
+	tests/drop_in/front_costs.py
+	tests/drop_in/front.py
 
 # The recipes of docs/SHARDS.md, whose bytes have to be those of the whole, and times with 1, 2 and 4 jobs.
 check-shards: $(PROGRAM)
-	docs/shards.py
+	tests/recipes/shards.py
 
 # What make install, make dist and make deb make, tried in folders of their own.
 check-packages: $(PROGRAM)
-	packaging/check.sh
+	tests/packages/check.sh
 
 pictures:
 	tools/pictures.py

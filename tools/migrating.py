@@ -9,7 +9,7 @@ The page has the options, the silent differences, and the names of the others. C
 differences.tsv has the command (`every` for all), the difference, what bedtools 2.30.0 and Dunekettle do, the kind, who
 takes such a command line of the drop-in, and what to do. options.tsv has the command, its options, whether Dunekettle
 takes them, and what to write. An option that is taken says `same`, and no other does. Each script that a row names is
-in examples/recipes.
+in recipes/.
 """
 
 import re
@@ -20,7 +20,7 @@ from files import TOP, read, rows, write
 
 PAGE = "docs/MIGRATING.md"
 DIFFERENCES, OPTIONS = "tests/differences/differences.tsv", "tests/differences/options.tsv"
-SCRIPTS = TOP / "examples" / "recipes"
+SCRIPTS = TOP / "recipes"
 # The hints of `dunekettle` on options that aren't taken.
 INSTEAD = "front/instead.txt"
 KINDS = ("silent", "error", "cosmetic")
@@ -135,7 +135,7 @@ def amiss():
     texts = [row.advice for row in (*differences(), *options())]
     for name in sorted({name for text in texts for name in re.findall(r"`([\w-]+\.sh)`", text)}):
         if not (SCRIPTS / name).exists():
-            yield f"no examples/recipes/{name}"
+            yield f"no recipes/{name}"
     commands = {row.command for row in (*differences(), *options())}
     for command in sorted(commands - {found[1] for found in MARKS.findall(read(PAGE))}):
         yield f"MIGRATING.md: nothing of {command}"

@@ -61,6 +61,7 @@ class Words(Counted):
 class Spelling(unittest.TestCase):
     def test_pages_and_scripts(self):
         files = [page.name for page in pages()] + ["tests", "tools"]
-        words = ["codespell", "-L", RIGHT, *files]
+        # What is tried of the drop-in has words that are wrong on purpose.
+        words = ["codespell", "-L", RIGHT, "--skip", "tests/drop_in", *files]
         ran = subprocess.run(words, cwd=TOP, capture_output=True, text=True, check=False)
         self.assertEqual(ran.stdout, "", " ".join(words))

@@ -1,4 +1,4 @@
-"""The files of the pipelines that docs/front.py runs: peaks, genes, reads, repeats and others, at random places."""
+"""The files of the pipelines that front.py runs: peaks, genes, reads, repeats and others, at random places."""
 
 import gzip
 import random

@@ -1,7 +1,7 @@
 #!/usr/bin/env python3
 """Runs the recipes of SHARDS.md with the program in bin/, and compares what they write with the output of the whole.
 
-    docs/shards.py [--records N] [--times N] [--only WORD..]
+    tests/recipes/shards.py [--records N] [--times N] [--only WORD..]
 
 The inputs have 25 chromosomes. Each of the seven commands is run whole, and in shards as the page's blocks do: by GNU
 parallel over files of each kind below, by Snakemake, and by a job array of Slurm, for which a Slurm of one node is
@@ -28,9 +28,9 @@ import tempfile
 import time
 from pathlib import Path
 
-TOP = Path(__file__).resolve().parent.parent
+TOP = Path(__file__).resolve().parents[2]
 PAGE = TOP / "docs" / "SHARDS.md"
-FILES = TOP / "examples" / "shards"
+FILES = TOP / "shards"
 LINES = 10  # of a recipe, at most
 CHROMOSOMES = [f"chr{name}" for name in [*range(1, 23), "X", "Y", "M"]]
 LENGTHS = {name: 6000 - 200 * number for number, name in enumerate(CHROMOSOMES)}

@@ -1,7 +1,7 @@
 #!/usr/bin/env python3
 """Tries what may go wrong with the front and the drop-in, and shows what a call costs.
 
-    docs/front_hostile.py
+    tests/drop_in/front_hostile.py
 
 Hints and the check of files; no bedtools behind the drop-in, or one that is ourselves; folders and words with spaces,
 stars and line feeds; a file that changes; closed streams, signals and full temporary folders; 200 calls at once; other

@@ -1,9 +1,9 @@
 #!/usr/bin/env python3
-"""Runs each recipe of examples/recipes with the program in bin/ beside the bedtools 2.30.0 on PATH.
+"""Runs each recipe of recipes/ with the program in bin/ beside the bedtools 2.30.0 on PATH.
 
-    docs/recipes.py [WORD..]              runs the cases of recipes.tsv, or those whose line of bedtools has all words
-    docs/recipes.py --cost [RECORDS]      measures what each script costs, into costs.tsv
-    docs/recipes.py --write               writes the table of RECIPES.md anew
+    tests/recipes/recipes.py [WORD..]          runs the cases of recipes.tsv, or those whose line of bedtools has all words
+    tests/recipes/recipes.py --cost [RECORDS]  measures what each script costs, into costs.tsv
+    tests/recipes/recipes.py --write           writes the table of RECIPES.md anew
 
 A case is a command line of bedtools, one of a script or of the program that must write the same bytes, and the kinds of
 files over which it must not. Both are run by bash over files of each kind below, and what uses a genome file over files
@@ -28,9 +28,9 @@ import time
 from pathlib import Path
 
 HERE = Path(__file__).resolve().parent
-TOP = HERE.parent
-SCRIPTS = TOP / "examples" / "recipes"
-PAGE, MIGRATING = HERE / "RECIPES.md", HERE / "MIGRATING.md"
+TOP = HERE.parents[1]
+SCRIPTS = TOP / "recipes"
+PAGE, MIGRATING = TOP / "docs" / "RECIPES.md", TOP / "docs" / "MIGRATING.md"
 LENGTHS = {"chr1": 3000, "chr10": 2000, "chr2": 1500}
 KINDS = ("six columns", "CR LF", "no sign", "three columns", "twelve columns", "header lines")
 # The kind whose chromosomes have another order than that of their bytes, and what a case has that is tried over it.
@@ -78,7 +78,7 @@ REFUSED = (
     "genomecov-bam.sh -ibam reads.bam -5",
 )
 # The table of RECIPES.md, between two marks.
-MARKS = re.compile(r"(<!-- docs/recipes.py --write: table -->\n).*?(<!-- it ends here -->)", re.DOTALL)
+MARKS = re.compile(r"(<!-- tests/recipes/recipes.py --write: table -->\n).*?(<!-- it ends here -->)", re.DOTALL)
 # Costs are measured over this many records, on chromosomes longer by as much; the least of so many runs counts.
 RECORDS, RUNS = 100_000, 3
 
@@ -307,7 +307,7 @@ def their_folder(folder):
 def our_folder(folder):
     """A folder with the program under the name that scripts call, and no original."""
     Path(folder).mkdir()
-    Path(folder, "dunekettle-bedtools").symlink_to(HERE.parent / "bin" / "bedtools")
+    Path(folder, "dunekettle-bedtools").symlink_to(TOP / "bin" / "bedtools")
     Path(folder, "bedtools").symlink_to("/bin/false")
     for script in SCRIPTS.glob("*.sh"):
         shutil.copy(script, folder)
@@ -359,7 +359,7 @@ def made():
     for script, need, limits, _ in table("needs.tsv"):
         pair = costs.get(script)
         cost = f"{pair[0]:.2f}, {pair[1]:.2f}{', **slower**' if pair[1] > pair[0] else ''}" if pair else ""
-        lines.append(f"| {need} | [{script}](../examples/recipes/{script}) | {cost} | {limits} |\n".replace("|  |", "| |").replace("|  |", "| |"))
+        lines.append(f"| {need} | [{script}](../recipes/{script}) | {cost} | {limits} |\n".replace("|  |", "| |").replace("|  |", "| |"))
     about = (HERE / "costs.tsv").read_text(encoding="utf-8").split("\n", 1)[0].split("script, over ")[1]
     slower = sum(ours > theirs for theirs, ours in costs.values())
     return "".join(lines) + f"\nProcessor time with `samtools`, `awk` and `sort`, over {about}; the least of {RUNS} runs. {slower} of {len(costs)} scripts are slower.\n"
@@ -373,7 +373,7 @@ def table_differs(is_written):
         PAGE.write_text(renewed, encoding="utf-8")
     if renewed == text or is_written:
         return False
-    print("RECIPES.md: its table is another: docs/recipes.py --write")
+    print("RECIPES.md: its table is another: tests/recipes/recipes.py --write")
     return True
 
 

@@ -3,10 +3,10 @@
 # run from there, the manual pages and completions have its name, each link of the pages leads somewhere, the checksums are
 # right, and the Debian package installs beside another bedtools and goes without a trace. What needs a shell or a program that isn't here is passed over with a word.
 #
-#     packaging/check.sh
+#     tests/packages/check.sh
 set -euo pipefail
 
-cd "$(dirname "$0")/.."
+cd "$(dirname "$0")/../.."
 folder=$(mktemp -d)
 trap 'rm -rf "$folder"' EXIT
 cases=0 wrong=0
@@ -74,7 +74,7 @@ fi
 expect_front "$folder/there" "the installation"
 expect "the docs of an installation" "yes" "$([ -f "$share/doc/trial-tools/docs/ERRORS.md" ] && echo yes)"
 expect "links of its pages that lead nowhere" "" "$(lost_links "$share/doc/trial-tools")"
-expect "a recipe" "$(printf 'chr1\t2\t6\nchr1\t4\t9')" "$(PATH=$folder/there/bin:$PATH "$share/doc/trial-tools/examples/recipes/intersect-F.sh" -a "$folder/sorted.bed" -b "$folder/sorted.bed" -F 0.5 -u)"
+expect "a recipe" "$(printf 'chr1\t2\t6\nchr1\t4\t9')" "$(PATH=$folder/there/bin:$PATH "$share/doc/trial-tools/recipes/intersect-F.sh" -a "$folder/sorted.bed" -b "$folder/sorted.bed" -F 0.5 -u)"
 expect "links of its pages" "yes" "$([ "$(grep -o '\](' -r "$share/doc/trial-tools" --include='*.md' | wc -l)" -gt 100 ] && echo yes)"
 if has man; then
     page=$(MANWIDTH=80 man -l "$share/man/man1/trial-tools.1" | col -b)

@@ -2,7 +2,7 @@
 """Gives the drop-in and bedtools 2.30.0 the same random command lines, for each rule by which the drop-in takes more than
 files of sorted BED.
 
-    docs/front_rules.py [SEED [CASES [JOBS [RULE]]]]
+    tests/drop_in/front_rules.py [SEED [CASES [JOBS [RULE]]]]
 
 The rules: files in an order of chromosomes of their own; genomecov in any order of them, its forms, its blocks of BED12 and of BAM; bamtobed through samtools;
 the order of hits, and bins of all levels; streams that are short, long, or two of one producer; gzip files; bytes that bedtools reads

@@ -1,7 +1,7 @@
 #!/usr/bin/env python3
 """Tries what may go wrong with streams that the drop-in copies, and with its files in TMPDIR.
 
-    docs/front_streams.py
+    tests/drop_in/front_streams.py
 
 A TMPDIR that is missing, read-only, full or a file; endless, slow and long streams; two of one producer; signals while
 a stream is copied, while files are looked at, and while bedtools reads a long stream; a copy that fails; other shells.

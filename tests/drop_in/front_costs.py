@@ -1,7 +1,7 @@
 #!/usr/bin/env python3
 """Shows what each kind of call costs with the drop-in and with bedtools 2.30.0 alone, also where the drop-in loses.
 
-    docs/front_costs.py [--write] [WORD..]
+    tests/drop_in/front_costs.py [--write] [WORD..]
 
 The files are made here: 800,000 reads as BED, SAM and BAM on a genome of 360,000,000 bases, exons, transcripts and
 sequences, and small ones. For each call it shows who took it and the seconds of both, of the processor and by the
@@ -11,7 +11,6 @@ that Dunekettle takes needs over a tenth more of the processor than bedtools.
 """
 
 import hashlib
-import os
 import random
 import re
 import resource

@@ -1,10 +1,10 @@
 #!/usr/bin/env python3
 """Tries pipelines as people have them, unchanged, with the drop-in first on PATH and without it.
 
-    docs/front.py [WORD..]     runs the scripts of docs/front/ whose names have one of these words; without one all
-    docs/front.py --write      writes front_pipelines.tsv, the table of MIGRATING.md and the line of README anew
+    tests/drop_in/front.py [WORD..]     runs the scripts of pipelines/ whose names have one of these words, or all
+    tests/drop_in/front.py --write      writes front_pipelines.tsv, the table of MIGRATING.md and the line of README
 
-The 45 scripts of docs/front/ run over files that docs/front_data.py makes; so do 27 calls of pybedtools, a rule of
+The 45 scripts of pipelines/ run over files that front_data.py makes; so do 27 calls of pybedtools, a rule of
 Snakemake, a module as nf-core has them, and a Makefile. Both runs have to write the same bytes and to end with the same
 status: it ends with 1 where one differs, and with 0 and a word where there is no bedtools 2.30.0. What isn't installed
 is passed over with a word. It says which goals are missed: of all calls of the seven commands in the scripts 85 percent
@@ -14,7 +14,6 @@ go to Dunekettle, in a quarter of the time of the processor, and no script takes
 import re
 import resource
 import shutil
-import subprocess
 import sys
 import tempfile
 import time
@@ -24,6 +23,7 @@ from front_data import make_all
 from front_tools import TOLD, Count, call, drop_in, environment, install, original
 
 HERE = Path(__file__).resolve().parent
+TOP = HERE.parents[1]
 # The commands that Dunekettle has.
 SEVEN = ("merge", "complement", "intersect", "subtract", "genomecov", "bamtobed", "maskfasta")
 # Who took a command line, which, and why.
@@ -116,7 +116,7 @@ def try_pipelines(folder, env, count, words):
     """Runs the scripts in both ways, and gives a row for each."""
     rows, reasons = [], {}
     print(f"{'pipeline':<26}{'calls':>7}{'taken':>7}{'small':>7}{'quick':>7}{'without':>10}{'with':>8}   seconds of processor")
-    for script in sorted((HERE / "front").glob("*.sh")):
+    for script in sorted((HERE / "pipelines").glob("*.sh")):
         if words and not any(word in script.stem for word in words):
             continue
         row, left = run_script(script, folder, env, count)
@@ -157,15 +157,15 @@ def goals_missed(rows):
 
 def write_table(rows):
     """Puts all rows into front_pipelines.tsv, into MIGRATING.md their sum and those that gain and lose most, into README the sum."""
-    page = HERE / "MIGRATING.md"
+    page = TOP / "docs" / "MIGRATING.md"
     shown = [(name[3:].replace("-", " "), *map(str, counts), f"{before:.2f}", f"{after:.2f}") for name, *counts, before, after in rows]
     (HERE / ROWS).write_text("".join("\t".join(row) + "\n" for row in [COLUMNS, *shown]), encoding="utf-8")
     by_gain = sorted(shown, key=lambda row: float(row[-1]) - float(row[-2]))
-    lines = [f"{summary(rows)}. [All rows]({ROWS}); those that gain and lose most:", ""]
+    lines = [f"{summary(rows)}. [All rows](../tests/drop_in/{ROWS}); those that gain and lose most:", ""]
     lines += [f"| {' | '.join(row)} |" for row in (COLUMNS, ["---"] * len(COLUMNS), *by_gain[:MOST], *by_gain[-MOST:])]
     text = page.read_text(encoding="utf-8")
     page.write_text(TABLE.sub(lambda found: found[1] + "\n".join(["", *lines, "", ""]) + found[2], text), encoding="utf-8")
-    first = HERE.parent / "README.md"
+    first = TOP / "README.md"
     calls, taken, _, _, before, after = sums(rows)
     gain = (f"- **With the drop-in**, [{len(rows)} pipelines](docs/MIGRATING.md#what-was-tried) as they are took {after:.0f} seconds of processor instead of "
             f"{before:.0f}. It gave {taken} of {calls} calls to Dunekettle.\n")
@@ -178,7 +178,7 @@ def try_pybedtools(folder, env, count):
     if not python:
         print("no pybedtools: passed over")
         return
-    words, told = [python, HERE / "front" / "calls.py"], folder / "told.txt"
+    words, told = [python, HERE / "pipelines" / "calls.py"], folder / "told.txt"
     # pybedtools takes any line on standard error for a fault.
     without, with_it = call(words, folder, environment()), call(words, folder, {**env, "DUNEKETTLE_TELL": str(told)})
     count.expect("pybedtools ends well", (0, 0), (without[2], with_it[2]))

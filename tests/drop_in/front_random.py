@@ -1,7 +1,7 @@
 #!/usr/bin/env python3
 """Gives the drop-in and bedtools 2.30.0 the same random command lines over small files of many kinds.
 
-    docs/front_random.py [SEED [CASES]]
+    tests/drop_in/front_random.py [SEED [CASES]]
 
 The files are sorted in several ways or not at all, with blank lines, header lines, lines that only look like them,
 long lines, CR LF, no strand, no base, columns that vary. Where bedtools ends with status 0 the drop-in has to write the

@@ -11,7 +11,7 @@ import sys
 import time
 from pathlib import Path
 
-TOP = Path(__file__).resolve().parent.parent
+TOP = Path(__file__).resolve().parents[2]
 # Where the tests of pages and the tools are.
 sys.path[:0] = [str(TOP), str(TOP / "tools")]
 PROGRAM = TOP / "bin" / "bedtools"

@@ -1,4 +1,4 @@
-"""The hints, the help and the check of files of `dunekettle`, and its files. docs/front_hostile.py tries this."""
+"""The hints, the help and the check of files of `dunekettle`, and its files. front_hostile.py tries this."""
 
 import json
 import os

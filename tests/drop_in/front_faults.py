@@ -1,5 +1,5 @@
 """Helper tools that die half way, and temporary folders that are full, under the drop-in: no byte may be lost without a
-fault and a status that isn't 0. docs/front_hostile.py tries this.
+fault and a status that isn't 0. front_hostile.py tries this.
 
 Each tool that the drop-in calls is faked by one that does its work, but at one of its calls writes the first half alone
 and kills itself: at each of its calls in turn."""
