@@ -19,14 +19,17 @@ DATE := $(shell git log -1 --format=%ct 2> /dev/null || stat -c %Y CHANGELOG.md)
 DIST := dunekettle-$(VERSION)-$(or $(CPU),$(shell uname -m))
 DEB = dunekettle-bedtools_$(VERSION)_$(or $(CPU),$(shell dpkg --print-architecture)).deb
 
+# Runs the tests of a folder.
+UNITTEST := python3 -m unittest discover -t .
+
 PROGRAM := bin/$(if $(CPU),$(CPU)/)bedtools
 # What the prover and the compiler say.
 LOG := bin/build.log
 SOURCES := crates.txt $(shell find crates -name out -prune -o -type f \( -name '*.rt' -o -name '*.antt' \) -print)
 
 DOCS := README.md CHANGELOG.md LICENSE $(wildcard docs/*.md docs/*.svg) $(wildcard bench/*.md bench/*.svg) \
-	docs/differences.tsv docs/front_costs.tsv docs/front_pipelines.tsv bench/odd.tsv bench/results.tsv \
-	CITATION.cff $(shell find examples/shards examples/recipes -type f)
+	tests/differences/differences.tsv tests/drop_in/front_costs.tsv tests/drop_in/front_pipelines.tsv bench/odd.tsv bench/results.tsv \
+	CITATION.cff $(shell find shards recipes -type f)
 
 .PHONY: all built example test mutants definitions check-docs check-program check-speed check-differences check-front check-shards \
 	check-packages pictures completions install uninstall dist deb clean
@@ -58,7 +61,7 @@ example: $(PROGRAM)
 	@examples/run.sh $(PROGRAM)
 
 test:
-	docs/gate.sh
+	tests/gate.sh
 
 # The further wrong bodies, which the gate doesn't try: each must be refused too. They are tried in a
 # copy, in the place of those of must-fail. `rt must-fail` leaves out what is built for tests alone: the copy has the
@@ -70,72 +73,60 @@ mutants:
 	for mutants in crates/*/mutants; do mv $$mutants $$(dirname $$mutants)/must-fail; done && \
 	rt must-fail; status=$$?; rm -rf $$copy; exit $$status
 
-# Wrong definitions, each of which has to break a worked value; docs/definitions.txt gets what breaks.
+# Wrong definitions, each of which has to break a worked value; tests/definitions/definitions.txt gets what breaks.
 definitions:
-	docs/definitions.py --write
+	tests/definitions/definitions.py --write
 
-# The shell examples of the pages and of docs/cases write what is below them, the example on each crate's first page is its
-# test, each link leads somewhere, tables of rows are those of their files, each call that allocates has its test, the completions
-# have the options of the pages, no page is harder to read than before, and tables and charts of the bench are those of its results.
+# The shell examples of the pages and of tests/pages/cases write what is below them, the example on each crate's first page is its
+# test, each link leads somewhere, each file that a tool writes is what it would write, each call that allocates has its test,
+# wrong bodies and wrong definitions fit the code, and tables and charts of the bench are those of its results.
 check-docs: $(PROGRAM)
-	docs/examples.py
-	docs/edits.py
-	docs/links.py
-	docs/migrating.py
-	docs/clauses.py --check
-	docs/completions.py
-	docs/manuals.py
-	docs/prose.py
+	$(UNITTEST) -s tests/pages
+	$(UNITTEST) -s tests/definitions
 	bench/results.py
 
 # Closed standard streams, full disks, directories: what no proof says of real files. Then memory that runs out, in small address
-# spaces and with each growth refused; large sizes; what is allocated over many records; random bytes; and the laws of
-# docs/PIPES.md on random inputs.
+# spaces and with each growth refused, also in the tests of crates; large sizes; what is allocated over many records; random
+# bytes; and the laws of docs/PIPES.md on random inputs.
 check-program: $(PROGRAM)
-	docs/edges.py
-	docs/scarce.py
-	docs/refusals.py
-	docs/ample.py
-	docs/allocations.py
-	docs/hostile.py
-	docs/laws.py
+	$(UNITTEST) -s tests/program
 
 # The instructions a record, beside those in bench/instructions.txt.
 check-speed: $(PROGRAM)
 	bench/compare.py --check
 
-# The rows of docs/differences.tsv and of docs/options.tsv, and the scripts of examples/recipes, tried with the program and
+# The rows of differences.tsv and of options.tsv in tests/differences, and the scripts of recipes/, tried with the program and
 # with the bedtools 2.30.0 on PATH.
 check-differences: $(PROGRAM)
-	docs/differences.py
-	docs/recipes.py
+	$(UNITTEST) -s tests/differences
+	tests/recipes/recipes.py
 
 # The front and the drop-in: hostile cases, streams and the temporary folder, random command lines, what calls cost, and
 # pipelines, unchanged, with the drop-in first on PATH.
 check-front: $(PROGRAM)
 	! command -v shellcheck > /dev/null || \
-	shellcheck -x front/dunekettle front/*.sh packaging/*.sh docs/front/*.sh examples/recipes/*.sh
-	docs/front_hostile.py
-	docs/front_streams.py
-	docs/front_random.py
-	docs/front_rules.py
-	docs/front_costs.py
-	docs/front.py
+	shellcheck -x front/dunekettle front/*.sh packaging/*.sh tests/packages/*.sh tests/drop_in/pipelines/*.sh recipes/*.sh
+	tests/drop_in/front_hostile.py
+	tests/drop_in/front_streams.py
+	tests/drop_in/front_random.py
+	tests/drop_in/front_rules.py
+	tests/drop_in/front_costs.py
+	tests/drop_in/front.py
 
 # The recipes of docs/SHARDS.md, whose bytes have to be those of the whole, and times with 1, 2 and 4 jobs.
 check-shards: $(PROGRAM)
-	docs/shards.py
+	tests/recipes/shards.py
 
 # What make install, make dist and make deb make, tried in folders of their own.
 check-packages: $(PROGRAM)
-	packaging/check.sh
+	tests/packages/check.sh
 
 pictures:
-	docs/pictures.py
+	tools/pictures.py
 
 completions:
-	docs/completions.py --write
-	docs/manuals.py --write
+	tools/completions.py
+	tools/manuals.py
 
 # The manual pages and the completions get the program's name there.
 install: $(PROGRAM)

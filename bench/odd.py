@@ -2,7 +2,7 @@
 
 compare.py --odd runs them. Of each workload the outputs of both programs are compared by their checksums, and then each
 program is timed with its output to /dev/null. Each input is such that both programs write the same bytes; a note says how
-it avoids a difference that docs/differences.tsv names.
+it avoids a difference that differences.tsv names.
 """
 
 import hashlib
@@ -36,7 +36,7 @@ class Odd:
     write: Callable
     # At most such a part of bedtools' time is aimed at.
     goal: float = 1.0
-    # How the input avoids a difference that docs/differences.tsv names.
+    # How the input avoids a difference that differences.tsv names.
     note: str = ""
 
     def name(self):

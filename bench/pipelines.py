@@ -22,7 +22,7 @@ from pathlib import Path
 
 HERE = Path(__file__).resolve().parent
 TOP = HERE.parent
-sys.path.insert(0, str(TOP / "docs"))
+sys.path.insert(0, str(TOP / "tests" / "drop_in"))
 
 from front_tools import TOLD, drop_in, environment, install, original  # noqa: E402
 from results import IDLE, commit, machine  # noqa: E402

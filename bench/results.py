@@ -392,11 +392,11 @@ def agree(is_written):
 def memory_differs(kept):
     """Whether differences.tsv says another memory of bedtools' genomecov than was measured."""
     theirs = spread([row["runs"]["bedtools"]["kilobytes"] for row in kept["workloads"] if row["command"] == "genomecov"], megabytes)
-    text = (TOP / "docs" / "differences.tsv").read_text(encoding="utf-8")
+    text = (TOP / "tests" / "differences" / "differences.tsv").read_text(encoding="utf-8")
     said = re.search(r"^genomecov\tmemory\t[^\t]*?([\d.]+ [GM]B)", text, re.MULTILINE)
     if said and said[1] == theirs:
         return False
-    print(f"docs/differences.tsv: genomecov of bedtools takes {said and said[1]}, and {theirs} was measured")
+    print(f"differences.tsv: genomecov of bedtools takes {said and said[1]}, and {theirs} was measured")
     return True
 
 

@@ -1,4 +1,4 @@
-# Completions of dunekettle-bedtools for bash, made by docs/completions.py.
+# Completions of dunekettle-bedtools for bash, made by tools/completions.py.
 _dunekettle_bedtools() {
     local word=${COMP_WORDS[COMP_CWORD]} command=${COMP_WORDS[1]-} line lines=()
     COMPREPLY=()

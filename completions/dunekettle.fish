@@ -1,4 +1,4 @@
-# Completions of dunekettle for fish, made by docs/completions.py.
+# Completions of dunekettle for fish, made by tools/completions.py.
 complete -c dunekettle -f
 complete -c dunekettle -n __fish_use_subcommand -a merge -d 'joins features that overlap or touch, and writes chromosome, start and end of each'
 complete -c dunekettle -n __fish_use_subcommand -a complement -d 'writes the parts of each chromosome that no feature covers'

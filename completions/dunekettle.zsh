@@ -1,5 +1,5 @@
 #compdef dunekettle
-# Completions of dunekettle for zsh, made by docs/completions.py.
+# Completions of dunekettle for zsh, made by tools/completions.py.
 local -a commands
 commands=(
     'merge:joins features that overlap or touch, and writes chromosome, start and end of each'

@@ -35,11 +35,11 @@ for page; do
 done
 
 # The recipes call the program by its name there.
-recipes=examples/recipes/functions.sh
+recipes=recipes/functions.sh
 [ ! -f "$doc/$recipes" ] || sed "s/dunekettle-bedtools/$name/g" "$top/$recipes" > "$doc/$recipes"
 
 # Of a page's links those that lead to no installed file become their text: it is in the repository alone.
-# A heading that such a link names isn't looked at: docs/links.py does that.
+# A heading that such a link names isn't looked at: test_links.py does that.
 for page; do
     case $page in *.md) ;; *) continue ;; esac
     folder=$doc/$page

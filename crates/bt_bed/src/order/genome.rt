@@ -103,7 +103,7 @@ impl Genome {
         rank < self.lengths.len() && is_same_name(self.name(rank), name)
     }
 
-    // Adds what a line says. The contracts of std don't say when a list or a map can't grow, so `docs/ample.py` tries that
+    // Adds what a line says. The contracts of std don't say when a list or a map can't grow, so `test_sizes.py` tries that
     // memory runs out only if a growth was refused.
     fn add_line(&mut self, alloc: Global, place: Place, text: &[u8]) -> Result<(), Fault>
         ensures added { OnOk result (LineAdded text.now self.old self.new) }

@@ -119,7 +119,7 @@ impl<Q: Sorted> OrderedLookahead<Q> {
 
     // Takes the line that follows the last record's, and returns true if it has a record, which
     // is ahead then. Memory runs out only for the name of another chromosome. No clause says how much
-    // room the buffer of names has, so `docs/ample.py` tries that it runs out only if a growth was refused.
+    // room the buffer of names has, so `test_sizes.py` tries that it runs out only if a growth was refused.
     pub(crate) fn take_line(&mut self, place: Place, text: &[u8]) -> Result<bool, Fault>
         requires known { IsKnownLast (Q.sorting self.old.rule) (last_in self.old) }
         ensures { TakesLine (Q.sorting self.old.rule) place text.now self.old result self.new }

@@ -63,7 +63,7 @@ impl Rec {
 impl BedRef<'_> {
     /// The record with bytes of its own. It allocates once if its name and other columns are longer
     /// than what a [`Rec`] has inline, and else not. `Err` if memory runs out. A longer record is refused
-    /// only if its allocation was. The contracts of std don't say when an allocation fails, so `docs/ample.py` tries it.
+    /// only if its allocation was. The contracts of std don't say when an allocation fails, so `test_sizes.py` tries it.
     pub fn to_rec(&self, alloc: Global) -> Result<Rec, AllocError>
         ensures kept { IfOk result (λ rec. rec ≡ feature_lent self.now) }
         ensures long { OnErr result (inline_size < length self.now.chrom.now + length self.now.rest.now) }

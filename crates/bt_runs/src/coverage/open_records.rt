@@ -104,7 +104,7 @@ impl OpenRecords {
     }
 
     // Adds a record that starts at the position, if it is open there. The contracts of std don't say when a heap can't
-    // grow: `docs/ample.py` tries that memory runs out only if a growth was refused.
+    // grow: `test_sizes.py` tries that memory runs out only if a growth was refused.
     #[inline(always)]
     pub(crate) fn push(&mut self, stop: u64) -> Result<(), AllocError>
         ensures added { OnOk result (self.new ≡ record { at = self.old.at; spans = self.old.spans ++ still_open self.old.at (record { start = self.old.at; stop = stop } ∷ []) }) }

@@ -19,7 +19,7 @@ pub(crate) trait Rule {
     ghost with_on: { Self → Self.OnChrom → Self };
 
     // Goes on to the chromosome of this name, which may be the one that it is on, and writes the lines that this settles.
-    // No clause says when the buffer of a name can't grow: `docs/ample.py` tries that memory runs out only if a growth
+    // No clause says when the buffer of a name can't grow: `test_sizes.py` tries that memory runs out only if a growth
     // was refused.
     fn enter<K: Sink>(&mut self, chrom: &[u8], out: &mut Out<K>) -> Result<(), Fault>
         ensures on { OnOk result (definition.is_on self.new chrom.now) }

@@ -91,7 +91,7 @@ impl RunList {
         lengthen(&mut self.runs, place, stop, reach)
     }
 
-    // Adds a run after the others. The contracts of std don't say when a list can't grow: `docs/ample.py` tries that memory
+    // Adds a run after the others. The contracts of std don't say when a list can't grow: `test_sizes.py` tries that memory
     // runs out only if a growth was refused.
     #[tactic(auto, using(crate::proofs::lemmas::merge::StrandSettling::added_counts))]
     pub(crate) fn push(&mut self, run: PendingRun) -> Result<(), AllocError>

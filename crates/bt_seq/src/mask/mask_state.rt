@@ -334,7 +334,7 @@ impl MaskState {
     }
 
     // Keeps a line until it is decided. What is seen of an engine doesn't say how much room it has, so
-    // `docs/ample.py` tries that memory runs out only if the buffer has to grow.
+    // `test_sizes.py` tries that memory runs out only if the buffer has to grow.
     fn keep(&mut self, text: &[u8], ending: LineEnd) -> Result<(), Fault>
         ensures { Keeps self.old (record { text = text.now; ending = ending }) result self.new }
     {

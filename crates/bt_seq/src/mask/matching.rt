@@ -76,7 +76,7 @@ impl Matching {
         *is_named
     }
 
-    // Goes on to a new sequence. If memory runs out, nothing is known afterwards. `docs/ample.py` tries that it
+    // Goes on to a new sequence. If memory runs out, nothing is known afterwards. `test_sizes.py` tries that it
     // runs out only if the name's buffer has to grow.
     pub(crate) fn begin(&mut self, name: &[u8]) -> Result<(), AllocError>
         ensures { OnOk result (self.new ≡ named self.old name.now) }

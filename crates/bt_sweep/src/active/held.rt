@@ -10,7 +10,7 @@ pub trait Held: Drop {
     ghost records: { Self → List Feature };
 
     /// Adds a record after the others. If memory runs out, the record is handed back and the list
-    /// stays as it was. The contracts of std don't say when a map can't grow, so `docs/ample.py`
+    /// stays as it was. The contracts of std don't say when a map can't grow, so `test_sizes.py`
     /// tries that this happens only if a growth was refused.
     fn push(&mut self, rec: Rec) -> Result<(), Rec>
         ensures pushed { OnOk result (records self.new ≡ records self.old ++ rec ∷ []) }

@@ -167,7 +167,7 @@ impl<H: Held> State<H> {
     }
 
     // Makes a copy of this the record that waits. Memory runs out only for one that isn't kept inline; the contracts of std
-    // don't say when it does, so `docs/ample.py` tries that it does only if a growth was refused.
+    // don't say when it does, so `test_sizes.py` tries that it does only if a growth was refused.
     pub(crate) fn keep<R: Record>(&mut self, a: &R) -> Result<(), Fault>
         requires { All (CanHit (R.feature a.now)) self.old.held }
         ensures { KeepsOne self.old (R.feature a.now) result self.new }
@@ -260,7 +260,7 @@ impl<H: Held> State<H> {
     }
 
     // Holds it, as it ends after that one's start. It returns false if there is no room for it, or memory runs out. No
-    // clause says how much room a list has, so `docs/ample.py` tries that memory runs out only if a growth was refused.
+    // clause says how much room a list has, so `test_sizes.py` tries that memory runs out only if a growth was refused.
     #[inline(never)]
     fn hold<B: Record>(&mut self, start: u64, b: &B) -> bool
         requires none { self.old.current ≡ None }

@@ -1,0 +1,1 @@
+"""Wrong definitions, each of which has to break a worked value."""

@@ -1,0 +1,142 @@
+#!/bin/bash
+# Tries what `make install`, `make dist` and `make deb` make, in a folder of its own: the program, its front and the drop-in
+# run from there, the manual pages and completions have its name, each link of the pages leads somewhere, the checksums are
+# right, and the Debian package installs beside another bedtools and goes without a trace. What needs a shell or a program that isn't here is passed over with a word.
+#
+#     tests/packages/check.sh
+set -euo pipefail
+
+cd "$(dirname "$0")/../.."
+folder=$(mktemp -d)
+trap 'rm -rf "$folder"' EXIT
+cases=0 wrong=0
+
+# expect WHAT WANTED FOUND: one case
+expect() {
+    cases=$((cases + 1))
+    [ "$2" = "$3" ] || { wrong=$((wrong + 1)); printf '%s\n  wanted %s\n  found  %s\n' "$1" "$2" "$3"; }
+}
+has() { command -v "$1" > /dev/null || { echo "no $1: passed over"; return 1; }; }
+records() { printf 'chr1\t2\t6\nchr1\t4\t9\n'; }
+
+# The links of the pages below a folder that lead nowhere there. A heading that one names isn't looked at.
+lost_links() {
+    find "$1" -name '*.md' | while IFS= read -r page; do
+        { grep -v '^    ' "$page" || true; } | { grep -o '\][(][^) ]*[)]' || true; } | sed 's/^](//; s/)$//; s/#.*//' |
+            while IFS= read -r target; do
+                case $target in '' | *://*) ;; *) [ -e "$(dirname "$page")/$target" ] || echo "$page: $target" ;; esac
+            done
+    done
+}
+
+# The front and the drop-in in a folder of an installation, with nothing but them and usual tools on PATH.
+expect_front() {
+    expect "$2: the front" "chr1	2	9" "$(records | "$1/bin/dunekettle" merge)"
+    expect "$2: its help" "dunekettle merge [-i FILE] [-g GENOME] [-d N] [-s | -S + | -S -]" "$("$1/bin/dunekettle" help merge | head -n 1)"
+    expect "$2: its hint" "dunekettle: none isn't there" "$("$1/bin/dunekettle" merge -i none 2>&1 | tail -n 1 || true)"
+    expect "$2: its check" "$folder/sorted.bed: BED; 2 records on 1 chromosome; 3 columns; sorted, by the bytes of the names" \
+        "$("$1/bin/dunekettle" check "$folder/sorted.bed")"
+    expect "$2: its version" "Dunekettle $(sed -n 's/^## //p' CHANGELOG.md | head -n 1)" "$("$1/bin/dunekettle" --version | sed -n '1s/,.*//p')"
+    expect "$2: the drop-in" "chr1	2	9" "$("$1/lib/dunekettle/bin/mergeBed" -i "$folder/sorted.bed")"
+    expect "$2: who took it" "dunekettle: Dunekettle takes merge" "$(DUNEKETTLE_TELL=1 "$1/lib/dunekettle/bin/bedtools" merge -i "$folder/long.bed" 2>&1 > /dev/null | cut -d : -f 1,2)"
+    DUNEKETTLE_TELL=$folder/told.txt "$1/lib/dunekettle/bin/bedtools" merge -i "$folder/long.bed" > /dev/null
+    expect "$2: its report" "1 call, of which 1 of the seven commands; Dunekettle took 1 of 1 (100 percent)" \
+        "$("$1/bin/dunekettle" report "$folder/told.txt" | head -n 1)"
+    rm -f "$folder/told.txt"
+    cp "$1/bin/dunekettle" "$folder/copy"
+    expect "$2: a copy of the front" "chr1	2	9" "$(records | PATH=$1/bin:$PATH "$folder/copy" merge)"
+    expect "$2: a reader that goes away" "141" "$(set +e; "$1/lib/dunekettle/bin/bedtools" merge -i "$folder/long.bed" | head -n 1 > /dev/null; echo "${PIPESTATUS[0]}")"
+    expect "$2: its links" "8" "$(find "$1/lib/dunekettle/bin" -type l -exec test -x {} \; -print | wc -l)"
+}
+
+# Words that a shell offers for a begun command line, in one line.
+in_bash() {
+    bash -c "source '$share/bash-completion/completions/${1%% *}'
+        COMP_WORDS=($1); COMP_CWORD=\$((\${#COMP_WORDS[@]} - 1)); _$(tr - _ <<< "${2:-dunekettle-bedtools}") 2> /dev/null
+        printf '%s\n' \"\${COMPREPLY[@]%%  (*}\"" | sort | paste -s -d ' '
+}
+in_fish() { fish -c "source '$share/fish/vendor_completions.d/${1%% *}.fish'; complete -C '$1'" | cut -f 1 | sort | paste -s -d ' '; }
+in_zsh() { # what zsh shows behind a tab
+    zsh -f -c "zmodload zsh/zpty; zpty shell zsh -f -i; zpty -w shell 'fpath=($share/zsh/site-functions \$fpath)
+        autoload -Uz compinit; compinit -u -d $folder/dump; PS1=; unsetopt beep; LISTMAX=999; COLUMNS=300'
+        zpty -w -n shell '$1'\$'\t'; sleep 3; zpty -r -t shell text; while zpty -r -t shell more; do text+=\$more; done; print -r -- \$text; zpty -d shell"
+}
+
+records > "$folder/sorted.bed"
+awk 'BEGIN { for (n = 0; n < 99999; n++) print "chr1\t" 9 * n "\t" 9 * n + 5 }' > "$folder/long.bed"
+share=$folder/there/share
+make --silent install DESTDIR= PREFIX="$folder/there" NAME=trial-tools
+expect "the installed program" "chr1	2	9" "$(records | "$folder/there/bin/trial-tools" merge)"
+if has objcopy && has strings; then
+    version=$(sed -n 's/^## //p' CHANGELOG.md | head -n 1)
+    expect "its version" "Dunekettle $version" "$(strings -a "$folder/there/bin/trial-tools" | grep '^Dunekettle ')"
+fi
+expect_front "$folder/there" "the installation"
+expect "the docs of an installation" "yes" "$([ -f "$share/doc/trial-tools/docs/ERRORS.md" ] && echo yes)"
+expect "links of its pages that lead nowhere" "" "$(lost_links "$share/doc/trial-tools")"
+expect "a recipe" "$(printf 'chr1\t2\t6\nchr1\t4\t9')" "$(PATH=$folder/there/bin:$PATH "$share/doc/trial-tools/recipes/intersect-F.sh" -a "$folder/sorted.bed" -b "$folder/sorted.bed" -F 0.5 -u)"
+expect "links of its pages" "yes" "$([ "$(grep -o '\](' -r "$share/doc/trial-tools" --include='*.md' | wc -l)" -gt 100 ] && echo yes)"
+if has man; then
+    page=$(MANWIDTH=80 man -l "$share/man/man1/trial-tools.1" | col -b)
+    expect "the examples of its manual page" "yes" "$(grep -q 'trial-tools merge -i' <<< "$page" && echo yes)"
+    expect "no example of another name" "" "$(grep -E 'bedtools (merge|intersect|bamtobed) ' <<< "$page" || true)"
+    expect "the page of its front" "yes" "$(MANWIDTH=80 man -l "$share/man/man1/dunekettle.1" | col -b | grep -c 'trial-tools(1)' > /dev/null && echo yes)"
+    expect "a page of each command" "7" "$(for file in "$share"/man/man1/dunekettle-*.1; do MANWIDTH=80 man -l "$file" | col -b | grep -c '^OPTIONS'; done | wc -l)"
+    expect "the page of a command" "yes" "$(MANWIDTH=80 man -l "$share/man/man1/dunekettle-merge.1" | col -b | grep -c 'trial-tools(1)' > /dev/null && echo yes)"
+    expect "its title" "yes" "$(grep -q '^TRIAL-TOOLS(1)' <<< "$page" && echo yes)"
+fi
+expect "a command in bash" "merge" "$(in_bash 'trial-tools me')"
+expect "options in bash" "-wa -wb -wo" "$(in_bash 'trial-tools intersect -w')"
+expect "strands in bash" "+ -" "$(in_bash "trial-tools merge -S ''")"
+expect "a command of the front in bash" "check" "$(in_bash 'dunekettle ch' dunekettle)"
+expect "options of the front in bash" "-wa -wb -wo" "$(in_bash 'dunekettle intersect -w' dunekettle)"
+expect "options of its check in bash" "--json" "$(in_bash 'dunekettle check --' dunekettle)"
+expect "its report in bash" "report" "$(in_bash 'dunekettle rep' dunekettle)"
+expect "commands behind help in bash" "merge" "$(in_bash 'dunekettle help me' dunekettle)"
+if has fish; then
+    expect "a command in fish" "merge" "$(in_fish 'trial-tools me')"
+    expect "options in fish" "-wa -wb -wo" "$(in_fish 'trial-tools intersect -w')"
+    expect "a command of the front in fish" "check" "$(in_fish 'dunekettle ch')"
+fi
+if has zsh; then
+    shown=$(in_zsh 'trial-tools intersect -w')
+    expect "options in zsh" "yes" "$(grep -q -- '-wo .*number of bases' <<< "$shown" && echo yes)"
+fi
+
+make --silent uninstall DESTDIR= PREFIX="$folder/there" NAME=trial-tools
+expect "what is left of an installation" "$folder/there" "$(find "$folder/there")"
+
+make --silent dist > "$folder/said.txt"
+tarball=$(sed -n 's/^Made \([^,]*\),.*/\1/p' "$folder/said.txt")
+expect "the tarball's checksum" "yes" "$(cd bin && sha256sum --quiet -c "$(basename "$tarball").sha256" && echo yes)"
+tar -C "$folder" -xzf "$tarball"
+unpacked=$folder/$(basename "$tarball" .tar.gz)
+expect "the checksums in the tarball" "yes" "$(cd "$unpacked" && sha256sum --quiet -c SHA256SUMS && echo yes)"
+expect "each file has one" "$(cd "$unpacked" && find . -type f | wc -l)" "$(($(wc -l < "$unpacked/SHA256SUMS") + 1))"
+expect "the program in the tarball" "chr1	2	9" "$(records | "$unpacked/bin/dunekettle-bedtools" merge)"
+expect_front "$unpacked" "the tarball"
+expect "links of the tarball's pages that lead nowhere" "" "$(lost_links "$unpacked")"
+sum=$(cat "$tarball.sha256")
+make --silent dist > /dev/null
+expect "the same tarball once more" "$sum" "$(cat "$tarball.sha256")"
+
+if has dpkg-deb; then
+    make --silent deb > "$folder/said.txt"
+    package=$(sed -n "s/.* in '\(.*\)'.*/\1/p" "$folder/said.txt")
+    root=$folder/root
+    mkdir -p "$root/var/lib/dpkg/updates" "$root/var/lib/dpkg/info" "$root/usr/bin"
+    : > "$root/var/lib/dpkg/status"
+    echo other > "$root/usr/bin/bedtools"
+    debian() { dpkg --root="$root" --force-not-root --force-depends --log=/dev/null "$@" > "$folder/said.txt" 2>&1; }
+    debian --install "$package"
+    expect "the package's program" "chr1	2	9" "$(records | "$root/usr/bin/dunekettle-bedtools" merge)"
+    expect_front "$root/usr" "the package"
+    expect "links of the package's pages that lead nowhere" "" "$(lost_links "$root/usr")"
+    expect "bedtools beside it" "other" "$(cat "$root/usr/bin/bedtools")"
+    expect "its files are whole" "" "$(cd "$root" && md5sum --quiet -c var/lib/dpkg/info/dunekettle-bedtools.md5sums)"
+    debian --purge dunekettle-bedtools
+    expect "what is left of it" "$root/usr/bin/bedtools" "$(find "$root/usr" -type f)"
+fi
+
+echo "$cases cases of packages, $wrong of them differ"
+[ "$wrong" = 0 ]

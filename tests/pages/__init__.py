@@ -1,0 +1,1 @@
+"""What the pages say: examples, links, words, and what is written by tools."""

@@ -1,0 +1,144 @@
+#!/usr/bin/env python3
+"""Writes a manual page of each command: man/dunekettle-COMMAND.1, by its part of COMMANDS.md and by front/options.txt.
+
+Text, lists and examples are those of COMMANDS.md, without pictures and tables; the options are those of options.txt. An
+example that reads a file of an earlier command begins with the lines that make it. The date is that of man/bedtools.1.
+"""
+
+import re
+import sys
+
+from completions import COMMANDS, NAME, default_in_words, read_options, sections, synopsis, version
+from files import read, write
+
+# Pieces of a paragraph: code, and a link, of which the text is left.
+LINK = re.compile(r"\[([^\]]*)\]\([^)]*\)")
+CODE = re.compile(r"`([^`]*)`")
+# A line of an example that makes a file, or adds to it.
+MAKES = re.compile(r"^    \$ printf .* (>>?) (\S+)$", re.MULTILINE)
+
+
+def escaped(text):
+    """Text as roff reads it."""
+    text = text.replace("\\|", "|").replace("\\", "\\e").replace("-", "\\-")
+    return f"\\&{text}" if text.startswith((".", "'")) else text
+
+
+def words(text):
+    """A paragraph as roff: links as their text, code and what is strong in bold."""
+    parts = re.split(r"(`[^`]*`|\*\*)", LINK.sub(r"\1", text))
+    made, is_bold = "", False
+    for part in parts:
+        if part == "**":
+            is_bold = not is_bold
+            made += "\\fB" if is_bold else "\\fP"
+        elif part.startswith("`"):
+            made += escaped(part.strip("`")) if is_bold else f"\\fB{escaped(part.strip('`'))}\\fP"
+        else:
+            made += part.replace("\\", "\\e")
+    made = made.replace("dunekettle\\-bedtools", "dunekettle")
+    return f"\\&{made}" if made.startswith((".", "'")) else made
+
+
+def files_before(section):
+    """The files that the examples of COMMANDS.md before a section make, each with the lines that do."""
+    text, made = read(COMMANDS), {}
+    for match in MAKES.finditer(text[:text.index(section)]):
+        made[match[2]] = [*(made.get(match[2], []) if match[1] == ">>" else []), match[0]]
+    return made
+
+
+def missing(block, made):
+    """The lines that make the files which a block reads, if none before it has. What it makes itself isn't missing."""
+    lines = []
+    for name in list(made):
+        if re.search(rf"(?<![\w./]){re.escape(name)}(?![\w.])", "\n".join(block)):
+            makers = made.pop(name)
+            lines += [] if any(match[2] == name for match in MAKES.finditer("\n".join(block))) else makers
+    return lines
+
+
+def example(block):
+    """A block of commands and what they write, with the name of the front."""
+    lines = [line[4:].replace(NAME, "dunekettle") for line in block]
+    return [".Bd -literal -offset indent", *(escaped(line) for line in lines), ".Ed"]
+
+
+def blocks_of(section):
+    """A section in blocks of contiguous lines, without its link to other pages."""
+    section = re.sub(r"^\[Options of bedtools, differences\]\([^)]*\)\. ?", "", section, flags=re.MULTILINE)
+    return [block.split("\n") for block in re.split(r"\n\n+", section.strip("\n"))]
+
+
+def body(section, made):
+    """The text of a section: paragraphs, lists and examples. `made` has the files that come from before it."""
+    lines = []
+    for block in blocks_of(section):
+        if block[0].startswith(("|", "<!--")) or block[0].startswith("    ") and not block[0].startswith("    $ "):
+            continue
+        if block[0].startswith("    "):
+            lines += example([*missing(block, made), *block])
+        elif block[0].startswith("### "):
+            lines.append(f".Ss \\&{block[0][4:]}")
+        elif block[0].startswith("- "):
+            lines += [".Pp", ".Bl -bullet -compact"]
+            for item in block:
+                lines += [".It", words(item[2:])]
+            lines.append(".El")
+        else:
+            lines += [".Pp" if lines and not lines[-1].startswith(".Ss") else "", words(" ".join(block))]
+    return [line for line in lines if line]
+
+
+# What ends a command with status 1.
+ERROR = "An error of an input, of reading or writing, or of memory"
+# What ends each page: its parts after the examples, and what the installation has besides.
+SEE_ALSO = [".Sh SEE ALSO", f".Xr {NAME} 1 ,", ".Xr dunekettle 1", ".Pp"]
+PAGES = [".Pa docs/COMMANDS.md", "has pictures too,", ".Pa docs/ERRORS.md", "each message,", ".Pa docs/MIGRATING.md",
+         "what differs from bedtools 2.30.0."]
+
+
+def statuses(has_limit):
+    """The part on the exit status: with what the limit of kept records does, if there is one."""
+    error = f"{ERROR}, or more records than -held allows." if has_limit else f"{ERROR}."
+    return [".Sh EXIT STATUS", ".Bl -tag -width Ds", ".It 0", "All output was written.", ".It 1", error, ".It 2",
+            "The command line can't be used.", ".El"]
+
+
+def option_lines(options):
+    """The part on the options."""
+    lines = [".Sh OPTIONS", ".Bl -tag -width Ds"]
+    for option, value, default, text in options:
+        lines += [f".It \\fB{escaped(option)}\\fP {value}".rstrip(), f"{text[0].upper()}{text[1:]}."]
+        lines += [default_in_words(default)] if default not in ("off", "on") else []
+    return [*lines, ".El"]
+
+
+def manual(command, purpose, options, section, date):
+    """The text of a command's page."""
+    made, call = files_before(section), synopsis(command, section)
+    lines = [f".Dd {date}", f".Dt DUNEKETTLE-{command.upper()} 1", ".Os", ".Sh NAME", f".Nm dunekettle-{command}",
+             f".Nd {purpose}", ".Sh SYNOPSIS", escaped(f"dunekettle {call}"), ".Sh DESCRIPTION",
+             *body(section.split("\n| option |")[0], made), *option_lines(options), ".Sh EXAMPLES"]
+    lines += body("\n\n".join(section.split("\n\n")[options_end(section):]), made)
+    lines += [*statuses("-held" in call), *SEE_ALSO, f"This page is that of Dunekettle {version()}.", *PAGES]
+    return "".join(f"{line}\n" for line in lines)
+
+
+def options_end(section):
+    """Which block of a section comes after its table of options."""
+    parts = section.split("\n\n")
+    return next(at for at, part in enumerate(parts) if part.startswith("| option |")) + 1
+
+
+def made():
+    """Each page and its text."""
+    _, commands = read_options()
+    parts = sections(commands)
+    date = re.search(r"^\.Dd (.*)", read("man/bedtools.1"))[1]
+    return {f"man/dunekettle-{command}.1": manual(command, purpose, options, parts[command], date)
+            for command, (purpose, options) in commands.items()}
+
+
+if __name__ == "__main__":
+    sys.exit(write(made()))

@@ -1,0 +1,155 @@
+#!/usr/bin/env python3
+"""Writes the rows of differences.tsv and options.tsv into MIGRATING.md, by command, and front/instead.txt, the hints on
+options that aren't taken.
+
+    tools/migrating.py           writes them
+    tools/migrating.py merge     prints all that the tables have of a command, or of `every`
+
+The page has the options, the silent differences, and the names of the others. Columns are separated by tabs.
+differences.tsv has the command (`every` for all), the difference, what bedtools 2.30.0 and Dunekettle do, the kind, who
+takes such a command line of the drop-in, and what to do. options.tsv has the command, its options, whether Dunekettle
+takes them, and what to write. An option that is taken says `same`, and no other does. Each script that a row names is
+in recipes/.
+"""
+
+import re
+import sys
+from typing import NamedTuple
+
+from files import TOP, read, rows, write
+
+PAGE = "docs/MIGRATING.md"
+DIFFERENCES, OPTIONS = "tests/differences/differences.tsv", "tests/differences/options.tsv"
+SCRIPTS = TOP / "recipes"
+# The hints of `dunekettle` on options that aren't taken.
+INSTEAD = "front/instead.txt"
+KINDS = ("silent", "error", "cosmetic")
+TAKERS = ("bedtools", "Dunekettle", "either")
+# A list of the page: its command, and what is between the two marks.
+MARKS = re.compile(r"(<!-- tools/migrating.py: (\w+) -->\n).*?(<!-- it ends here -->)", re.DOTALL)
+
+
+class Difference(NamedTuple):
+    """A row of differences.tsv."""
+
+    command: str
+    name: str
+    theirs: str
+    ours: str
+    kind: str
+    taker: str
+    advice: str
+
+
+class Option(NamedTuple):
+    """A row of options.tsv: options that are spelled in these ways, or a text if it is the lack of some."""
+
+    command: str
+    words: list
+    taken: str
+    advice: str
+
+
+def differences():
+    """The rows of differences.tsv."""
+    return [Difference(*row) for row in rows(DIFFERENCES)]
+
+
+def options():
+    """The rows of options.tsv."""
+    return [Option(command, words.split() if words.startswith("-") else [words], taken, advice)
+            for command, words, taken, advice in rows(OPTIONS)]
+
+
+def options_of(command):
+    """The list of a command's options."""
+    lines = []
+    for name, words, _, advice in options():
+        shown = ", ".join(f"`{word}`" for word in words)
+        shown = shown if words[0].startswith("-") else "none of `-d`, `-dz`, `-bg`, `-bga`"
+        lines += [f"- {shown}: {advice}\n"] if name == command else []
+    return "".join(lines)
+
+
+def starred(name, taker):
+    """The name of a difference, with a star if Dunekettle takes it with the drop-in, in parentheses if some of it."""
+    return name + {"bedtools": "", "Dunekettle": " \\*", "either": " (\\*)"}[taker]
+
+
+def differences_of(command):
+    """The table of a command's silent differences, and the names of the others."""
+    found = [row for row in differences() if row.command == command]
+    lines = [f"| {starred(row.name, row.taker)} | {row.theirs} | {row.ours} | {row.advice} |\n"
+             for row in found if row.kind == "silent"]
+    head = "| silent difference | bedtools 2.30.0 | Dunekettle | what to do |\n|---|---|---|---|\n"
+    lines = [head, *lines] if lines else []
+    for kind, head in (("error", "Errors"), ("cosmetic", "Cosmetic")):
+        names = [f"- {starred(row.name, row.taker)}\n" for row in found if row.kind == kind]
+        lines += [f"\n{head}:\n\n", *names] if names else []
+    return "".join(lines).lstrip("\n")
+
+
+def print_all(command):
+    """Prints the options of a command and each of its differences with all columns. Returns the exit status."""
+    shown = "".join(f"{', '.join(row.words)}: {row.advice}\n" for row in options() if row.command == command)
+    for row in differences():
+        if row.command == command:
+            shown += (f"\n{row.kind}: {row.name}\n    bedtools 2.30.0: {row.theirs}\n    Dunekettle: {row.ours}\n"
+                      f"    with the drop-in: {row.taker}\n")
+            shown += f"    what to do: {row.advice}\n" if row.advice else ""
+    print(shown.lstrip("\n"), end="")
+    return 0 if shown else 1
+
+
+def hint_of(advice):
+    """What a hint says instead of an option: the scripts that replace it, or to leave it out, or nothing."""
+    scripts = [] if advice.startswith("none") else re.findall(r"`([\w-]+\.sh)`", advice)
+    if scripts:
+        return f"docs/RECIPES.md, {' or '.join(dict.fromkeys(scripts))}"
+    return advice if advice.startswith("leave") else ""
+
+
+def instead():
+    """What a hint names instead of each option that isn't taken."""
+    for row in options():
+        for word in row.words if row.taken == "no" else ():
+            if word.startswith("-"):
+                yield f"{row.command}\t{word}\t{hint_of(row.advice)}\n"
+    yield "intersect\tseveral -b\tdocs/RECIPES.md, intersect-files.sh\n"
+
+
+def listed(command):
+    """What the page has between the marks of a command."""
+    own = differences_of(command)
+    return own if command == "every" else f"{options_of(command)}\n{own}"
+
+
+def amiss():
+    """What is wrong with the rows themselves, or lacks on the page."""
+    for row in differences():
+        if row.kind not in KINDS or row.taker not in TAKERS:
+            yield f"differences.tsv: {row.name}: there is no such kind, or no such program"
+    for row in options():
+        if (row.taken == "yes") != row.advice.startswith("same"):
+            yield f"options.tsv: {row.command} {' '.join(row.words)}: is taken, or it isn't"
+    texts = [row.advice for row in (*differences(), *options())]
+    for name in sorted({name for text in texts for name in re.findall(r"`([\w-]+\.sh)`", text)}):
+        if not (SCRIPTS / name).exists():
+            yield f"no recipes/{name}"
+    commands = {row.command for row in (*differences(), *options())}
+    for command in sorted(commands - {found[1] for found in MARKS.findall(read(PAGE))}):
+        yield f"MIGRATING.md: nothing of {command}"
+
+
+def made():
+    """Each file and its text."""
+    page = MARKS.sub(lambda found: found[1] + listed(found[2]) + found[3], read(PAGE))
+    return {PAGE: page, INSTEAD: "".join(instead())}
+
+
+def main():
+    return print_all(sys.argv[1]) if len(sys.argv) > 1 else write(made())
+
+
+if __name__ == "__main__":
+    sys.exit(main())
