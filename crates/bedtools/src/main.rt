@@ -11,12 +11,12 @@
 //! An example, as the stored run in this crate's folder (`args`, `stdin`, `stdout`) makes it among the files of `data`:
 //!
 //! ```text
-//! $ cd data; tr '\t' ' ' < ../stdin
+//! $ tr '\t' ' ' < stdin
 //! chr1 100 200
 //! chr1 180 250
 //! chr1 250 500
 //! chr1 501 1000
-//! $ bedtools merge -i stdin -g g.txt < ../stdin | tr '\t' ' '
+//! $ cd data; bedtools merge -i stdin -g g.txt < ../stdin | tr '\t' ' '
 //! chr1 100 500
 //! chr1 501 1000
 //! ```
