@@ -14,7 +14,7 @@ use Rattle.bt_lines.specs.declared.fault.Place.{Place}
 use Rattle.bt_bed.specs.calls.Reading.{IsLost, LinesPass}
 use Rattle.bt_bed.specs.model.BedLine.{fault_at_line}
 use Rattle.bt_lines.specs.declared.device.Source.{Ghosts as Source}
-use Rattle.bt_lines.proofs.lemmas.reader.block.ReadsLemmas.{hands_both}
+use Rattle.bt_lines.proofs.lemmas.reader.block.ReadsLemmas.{hands_none, hands_both}
 use Rattle.bt_lines.proofs.lemmas.reader.lines.TakingLemmas.{given_drops, sound_near, taken_below, not_told}
 use Rattle.bt_lines.proofs.lemmas.reader.lines.TextLemmas.{line_feeds-append}
 use Rattle.bt_lines.specs.calls.Output.{block_size}
@@ -322,7 +322,14 @@ pub record Going {S : Type 0} (device : Source S) (old now : LineReader S) (geno
 
 module _ {S : Type 0} (device : Source S) (old : LineReader S) where
   pub going_start : (genome : Genome) → entries genome ≡ [] → Going device old old genome
-  going_start genome none = grind (arith, continues_start)
+  going_start genome none = record {
+    continues = rw none (continues_start (input_of old) (lines_left device.left old) (lines_given old));
+    distinct = grind arith;
+    stays = λ before e. refl;
+    going = λ e. e;
+    served = refl;
+    passed = record { lines = grind arith; least = omega arith; bytes = ([], hands_none device old); sound = λ h. h };
+  }
 
   -- a reader that returns anything but a fault had none from the start
   had_none : (now : LineReader S) (genome : Genome) → Going device old now genome → fault_kept now ≡ None → fault_kept old ≡ None

@@ -33,7 +33,7 @@ use Rattle.bt_lines.specs.model.Fault.{FaultValue}
 use Rattle.bt_lines.specs.declared.fault.Fault.{Fault}
 use Rattle.bt_bed.proofs.lemmas.read.good.SaidLemmas.{bed_of_line}
 use Rattle.bt_bed.proofs.lemmas.read.ColumnLemmas.{said_record_name}
-use Rattle.bt_lines.proofs.lemmas.reader.block.ReadsLemmas.{counts_none, has_read_then, reads_same}
+use Rattle.bt_lines.proofs.lemmas.reader.block.ReadsLemmas.{counts_none, hands_none, has_read_then, reads_same}
 use Rattle.bt_bed.proofs.lemmas.order.TableLemmas.{lost_parts}
 use Rattle.bt_bed.specs.inside.FirstColumns.{IsRecordName}
 
@@ -481,7 +481,7 @@ fails_again device reader fault is none = record {
   state = refl;
   again = λ before e. let same : Some fault ≡ Some before = sym is ∙ e in (cc, refl);
   first = λ going. let other : ◌≡◌ {A = Option FaultValue} (Some fault) None = sym is ∙ going in cc;
-  stays = search rules;
+  stays = record { bytes = ([], hands_none device reader.below); format = refl };
   rises = omega arith;
   lines = search rules;
   near = λ going. let other : ◌≡◌ {A = Option FaultValue} (Some fault) None = sym is ∙ going in cc;

@@ -1,7 +1,7 @@
 -- Lemmas on lines that a reader of records takes one after another.
-use Rattle.bt_lines.proofs.Std.{◌≡◌, ℕ, suc, ◌+◌, ◌-◌, ◌^◌, ◌<◌, ◌≤◌, List, [], ◌∷◌, ◌++◌, length, take, drop, Option, Some, None, sym, ap, ◌∙◌, arith, false, length-append, IfSome, option_map, take-append-add, drop-drop, true, Ok, Err, refl, inl, inr, ◌⊎◌, Result}
+use Rattle.bt_lines.proofs.Std.{◌≡◌, ℕ, suc, ◌+◌, ◌-◌, ◌^◌, ◌<◌, ◌≤◌, List, [], ◌∷◌, ◌++◌, length, take, drop, Option, Some, None, sym, ap, ◌∙◌, arith, false, length-append, IfSome, option_map, take-append-add, drop-drop, true, Ok, Err, refl, inl, inr, ◌⊎◌, Result, add-zero}
 use Rattle.bt_lines.specs.declared.device.Source.{Ghosts as Source}
-use Rattle.bt_lines.proofs.lemmas.reader.lines.TakingLemmas.{is_prefix, near_next, not_told, next_below}
+use Rattle.bt_lines.proofs.lemmas.reader.lines.TakingLemmas.{is_prefix, near_next, not_told, next_below, given_below}
 use Rattle.bt_lines.proofs.lemmas.reader.lines.TextLemmas.{line_feeds-append, lines_are_numbered}
 use Rattle.bt_lines.specs.model.Fault.{FaultValue, read_failed}
 use Rattle.bt_lines.specs.calls.Faults.{no_memory}
@@ -11,7 +11,7 @@ use Rattle.bt_lines.specs.calls.Output.{block_size}
 use Rattle.bt_lines.specs.calls.Reader.{CutsOff, DropsLines, GivesFault, Hands, IsKept, IsNear, MakesLine, TakenLines, TakesLines, buffered_bytes, buffered_in, bytes_taken, fault_kept, has_ended, held, input_of, lines_given, lines_left, room, source_of, FailsToRead, GivesEnd, end_told, room as line_room, fault_kept as line_fault, HasRead, TellsOwnFailure as LineTellsOwnFailure}
 use Rattle.bt_lines.specs.declared.reader.buffered_lines.ConsumedLines.{ConsumedLines}
 use Rattle.bt_lines.specs.declared.reader.line_reader.LineReader.{LineReader}
-use Rattle.bt_bed.specs.calls.Reading.{LinesPass, IsBeyond, MemberReader, Remains, first_from, good_behind, good_coming, Stays, GivesMember, EndsMembers, LineIsWrong, RunsOut, Cause, AnswersFault, IsLost, TellsOwnFailure, is_of_line}
+use Rattle.bt_bed.specs.calls.Reading.{LinesPass, IsBeyond, MemberReader, Remains, first_from, good_behind, good_coming, Stays, GivesMember, EndsMembers, LineIsWrong, RunsOut, Cause, AnswersFault, IsLost, TellsOwnFailure, is_of_line, Takes, with_members}
 use Rattle.bt_lines.specs.declared.fault.Input.{Input}
 use Rattle.bt_lines.specs.declared.fault.Kind.{Kind}
 use Rattle.bt_bed.proofs.lemmas.read.good.SaidLemmas.{beyond_from}
@@ -87,7 +87,7 @@ module _ {S : Type 0} (device : Source S) where
     pub kept : IsKept device old → IsKept device now
 
   pub came_none : (reader : LineReader S) → Came reader reader
-  came_none reader = grind arith
+  came_none reader = record { lines = grind arith; least = omega arith; bytes = ([], hands_none device reader); kept = λ h. h }
 
   -- the lines that are left are numbered on from those given
   pub left_numbered : (reader : LineReader S) → IfSome (lines_left device.left reader) (AreNumbered (suc (lines_given reader)))
@@ -184,6 +184,10 @@ buffered_below reader some = next_below reader some
 beyond_lines : {A State : Type 0} (format : Format A State) (input : Input) (state : State) (count : ℕ) (lines : Option (List TextLine)) → IfSome lines (AreNumbered (suc count)) → IfSome (option_map (good_behind format input None state) lines) (IsBeyond count)
 beyond_lines format input state count lines n = grind (arith, beyond_from)
 
+same_good : {A : Type 0} (good : Option (Good A)) → option_map (with_members []) good ≡ good
+same_good None = refl
+same_good (Some good) = refl
+
 module _ {S A State : Type 0} (device : Source S) where
   -- what is still to come, without a fault
   pub good_is : (reader : MemberReader S A State) → reader.fault ≡ None
@@ -215,9 +219,40 @@ module _ {S A State : Type 0} (device : Source S) where
     pub state : new.state ≡ now.state
     pub format : new.format ≡ now.format
 
+  -- no member was taken
+  pub takes_none : (reader : MemberReader S A State) → Takes device reader [] reader
+  takes_none reader = record {
+    buffered = refl;
+    said = tt;
+    state = refl;
+    good = same_good (good_coming device.left reader);
+    goes = refl;
+    format = refl;
+    given = sym (add-zero (lines_given reader.below));
+    below = given_below reader.below;
+    hands = hands_none device reader.below;
+    source = refl;
+    lines = (came_none device reader.below).lines;
+    kept = λ h. h;
+    near = λ some. absurd (omega (arith, some));
+    shrinks = omega arith;
+  }
+
   module _ (old : MemberReader S A State) where
     pub going_start : old.buffered ≡ [] → old.fault ≡ line_fault old.below → Going old old
-    going_start none rest = grind arith
+    going_start none rest = record {
+      good = grind arith;
+      was_none = none;
+      none_buffered = none;
+      begun = inl refl;
+      rest = rest;
+      going = λ e. e;
+      state = refl;
+      format = refl;
+      passed = came_none device old.below;
+      served = refl;
+      shrinks = omega arith;
+    }
 
     more_bytes : (now : MemberReader S A State) (reader : LineReader S) → Going old now → (bytes : List ℕ) × Hands device now.below bytes reader → (bytes : List ℕ) × Hands device old.below bytes reader
     more_bytes now reader g more = (g.passed.bytes.0 ++ more.0, hands_both device old.below now.below reader g.passed.bytes.0 more.0 g.passed.bytes.1 more.1)

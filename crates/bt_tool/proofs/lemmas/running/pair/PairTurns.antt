@@ -14,7 +14,7 @@ use Rattle.bt_tool.proofs.lemmas.running.members.MemberLemmas.{IsFilled, IsOver,
 use Rattle.bt_tool.proofs.lemmas.running.feed.FeedLemmas.{put_more}
 use Rattle.bt_lines.specs.declared.reader.line_reader.LineReader.{LineReader}
 use Rattle.bt_lines.specs.declared.fault.Kind.{Kind}
-use Rattle.bt_lines.proofs.lemmas.reader.block.ReadsLemmas.{hands_both}
+use Rattle.bt_lines.proofs.lemmas.reader.block.ReadsLemmas.{hands_none, hands_both}
 use Rattle.bt_tool.specs.inside.SweepLoop.{ChecksUpTo}
 use Rattle.bt_tool.proofs.lemmas.running.feed.WritingLemmas.{up_to}
 
@@ -382,7 +382,13 @@ pub record IsReadOn {S A State : Type 0} (device : Source S) (before now : Membe
 
 module _ {S A State : Type 0} (device : Source S) (before : MemberReader S A State) where
   pub reads_start : IsReadOn device before before
-  reads_start = search rules
+  reads_start = record {
+    bytes = ([], hands_none device before.below);
+    rises = omega arith;
+    moves = inl refl;
+    going = λ e. e;
+    passes = λ old past p. ([], rw (append-nil past) p);
+  }
 
   module _ (now : MemberReader S A State) (on : IsReadOn device before now) where
     -- what was made buffered was taken

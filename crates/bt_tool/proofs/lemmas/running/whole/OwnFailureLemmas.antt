@@ -1,10 +1,10 @@
 -- Lemmas on failed reads that are reported: each is of a read that failed in the run, whatever its source did before.
-use Rattle.bt_lines.proofs.Std.{rules, ◌≡◌, ℕ, Option, None, Some, Err, List, ap, sym, subst, ◌∙◌, inl, inr, arith, ◌≢◌, MatchResult, Ok, Result, false≢true, option_map, ◌-◌, ◌^◌, ◌++◌, take, IfSome}
+use Rattle.bt_lines.proofs.Std.{rules, ◌≡◌, ℕ, Option, None, Some, Err, List, [], ap, sym, subst, ◌∙◌, inl, inr, arith, ◌≢◌, MatchResult, Ok, Result, false≢true, option_map, ◌-◌, ◌^◌, ◌++◌, take, IfSome}
 use Rattle.bt_lines.specs.declared.device.Source.{Ghosts as Source}
 use Rattle.bt_lines.proofs.lemmas.reader.block.ReadsLemmas.{memory_no_read, some_is, unread_then}
 use Rattle.bt_lines.specs.model.Fault.{FaultValue, read_failed}
 use Rattle.bt_lines.specs.calls.Faults.{no_memory, write_failed}
-use Rattle.bt_lines.specs.calls.Device.{begun}
+use Rattle.bt_lines.specs.calls.Device.{ReadsFail, ReadsOn, begun}
 use Rattle.bt_lines.specs.calls.Names.{fault_value}
 use Rattle.bt_lines.specs.calls.Output.{Output}
 use Rattle.bt_lines.specs.calls.Reader.{HasRead, IsUnread, TellsOwnFailure as LineTellsOwnFailure, bytes_taken, fault_kept as line_fault, source_of, Hands, IsSound, input_of, fault_kept, feeds_taken, lines_given, lines_left}
@@ -66,11 +66,19 @@ kept_below IsRead old reader lines is below own input line e = subst (IsOwnFault
 
 -- the reads of a reader are those of its run
 pub own_failure_of : {S : Type 0} (IsRead : S → Option (List ℕ) → S → Type 0) (first last : S) (old new : LineReader S) → source_of old ≡ first → source_of new ≡ last → bytes_taken old ≡ 0 → IsUnread IsRead old new → IsOwnFailure IsRead first last
-own_failure_of IsRead first last old new starts ends fresh p1 = grind arith
+own_failure_of IsRead first last old new starts ends fresh (inl fails) = inl (subst (λ s. ReadsFail IsRead s last) starts (subst (λ s. ReadsFail IsRead (source_of old) s) ends fails))
+own_failure_of IsRead first last old new starts ends fresh (inr past) = inr (
+  past.0.bytes,
+  subst (λ s. ReadsOn IsRead s past.0.bytes last) starts (subst (λ s. ReadsOn IsRead (source_of old) past.0.bytes s) ends past.0.served),
+  omega (arith, past.0.counted, fresh, past.1),
+)
 
 -- what the reads of a reader gave is what those of its run did
 pub served_of : {S : Type 0} (IsRead : S → Option (List ℕ) → S → Type 0) (first last : S) (old new : LineReader S) → source_of old ≡ first → source_of new ≡ last → HasRead IsRead old new → ReadsServe IsRead first last
-served_of IsRead first last old new starts ends read = grind arith
+served_of IsRead first last old new starts ends read = record {
+  bytes = read.bytes;
+  served = subst (λ s. ReadsOn IsRead s read.bytes last) starts (subst (λ s. ReadsOn IsRead (source_of old) read.bytes s) ends read.served);
+}
 
 -- a source that wasn't read
 pub serve_same : {S : Type 0} (IsRead : S → Option (List ℕ) → S → Type 0) (source : S) → ReadsServe IsRead source source

@@ -1,13 +1,19 @@
-use Rattle.bt_lines.proofs.Std.{arith, refl}
+use Rattle.bt_lines.proofs.Std.{◌≡◌, ◌∙◌, ℕ, ap, arith, refl, subst, sym, take}
+use Rattle.bt_lines.specs.calls.Line.{line_feeds}
+use Rattle.bt_lines.specs.calls.Reader.{buffered_bytes}
+use Rattle.bt_bed.proofs.lemmas.read.good.ReadingLemmas.{takes_none}
+use Rattle.bt_bed.specs.calls.Reading.{Takes}
 use Rattle.bt_lines.proofs.lemmas.reader.lines.BufferedLemmas.{some_lines}
 use Rattle.bt_bed.proofs.lemmas.read.batch.SortedReaderLemmas.{name_is_record, sorted_ahead, sorted_placed, sorted_takes, was_ahead, was_some}
-use Rattle.bt_bed.specs.calls.SortedReader.{buffered_in, count_in}
+use Rattle.bt_bed.specs.calls.SortedReader.{buffered_in, count_in, view_by}
 use Rattle.bt_bed.proofs.read.sorted_reader.SortedReader.consume.Goals as goal
-use Rattle.bt_lines.proofs.lemmas.reader.lines.TakingLemmas.{given_below}
 
 pub returns-then-consumed-eq0-clause-takes : goal.returns-then-consumed-eq0-clause-takes
 returns-then-consumed-eq0-clause-takes g c =
-    grind (arith, given_below)
+    let sorted = c.args.self.now in
+    let none : count_in sorted c.args.consumed ≡ 0 = sym c.requires.taken.lines.feeds ∙ ap (λ n. line_feeds (take n (buffered_bytes sorted.reader))) c.if-consumed-eq0.true in
+    subst (λ (n : ℕ). Takes g.S.Source (view_by g.Q.Sorted sorted sorted) (take n (buffered_in sorted)) (view_by g.Q.Sorted sorted sorted)) (sym none)
+    (takes_none g.S.Source (view_by g.Q.Sorted sorted sorted))
 
 pub advance-requires : goal.advance-requires
 advance-requires g c =

@@ -1,4 +1,4 @@
-use Rattle.bt_lines.proofs.Std.{arith, ◌≡◌, refl, sym, ap, ◌∙◌, Bool, None, Some}
+use Rattle.bt_lines.proofs.Std.{◌≡◌, refl, sym, ap, ◌∙◌, Bool, None, Some}
 use Rattle.bt_lines.specs.calls.Names.{fault_value}
 use Rattle.bt_lines.proofs.lemmas.reader.block.ReadsLemmas.{has_read_then, reads_same}
 use Rattle.bt_lines.specs.calls.Reader.{fault_kept as line_fault}
@@ -25,7 +25,10 @@ returns-in-Ok-true-take_line-clause-fills g c =
     (taken_record g.S.Source (g.Q.Sorted.sorting c.args.self.now.lookahead.rule) _ (ap g.Q.Sorted.sorting c.loop-self.invariant.rule) _ c.loop-self.self.reader fills.answers fills.kept c.loop-self.invariant.going taken)
 
 pub returns-in-Ok-true-take_line-clause-own_failure : goal.returns-in-Ok-true-take_line-clause-own_failure
-returns-in-Ok-true-take_line-clause-own_failure g c = grind (arith, read_record, has_read_then)
+returns-in-Ok-true-take_line-clause-own_failure g c =
+    let taken = rw c.in-Ok-true-take_line.field-0-test at c.in-Ok-true-take_line.ensures.takes in
+    read_record g.S.Source (g.Q.Sorted.sorting c.args.self.now.lookahead.rule) _ c.args.self.now.reader
+    (has_read_then g.S.Source.is_read c.args.self.now.reader c.loop-self.self.reader c.fill.new.self c.loop-self.invariant.read c.in-Ok-true.ensures.own_failure) taken
 
 pub loop-self-preserved : goal.loop-self-preserved
 loop-self-preserved g c =
