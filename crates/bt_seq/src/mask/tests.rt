@@ -1,5 +1,7 @@
 //! Worked masks, step by step, and outputs and memory that fail.
 
+mod growth_tests;
+
 ghost use Rattle.std.specs.Prelude.{◌≡◌};
 
 use super::*;
