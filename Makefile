@@ -99,7 +99,7 @@ check-speed: $(PROGRAM)
 # with the bedtools 2.30.0 on PATH.
 check-differences: $(PROGRAM)
 	$(UNITTEST) -s tests/differences
-	tests/recipes/recipes.py
+	$(UNITTEST) -s tests/recipes
 
 # The front and the drop-in: hostile cases, streams and the temporary folder, random command lines, what calls cost, and
 # pipelines, unchanged, with the drop-in first on PATH.

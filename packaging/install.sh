@@ -18,10 +18,10 @@ case $name in dunekettle | */*) echo "NAME=$name is taken, or no name"; exit 1 ;
 install -D "$top/front/dunekettle" "$root/bin/dunekettle"
 sed "s|^dk_name=.*|dk_name=$name|" "$top/front/dunekettle" > "$root/bin/dunekettle"
 mkdir -p "$root/lib/dunekettle/bin"
-for file in "$top"/front/*.sh "$top"/front/*.awk "$top/front/instead.txt"; do
+for file in "$top"/front/*.sh "$top"/front/*.awk "$top/generated/instead.txt"; do
     install -m 644 "$file" "$root/lib/dunekettle/${file##*/}"
 done
-sed "s|share/doc/dunekettle-bedtools|share/doc/$name|" "$top/front/help.txt" > "$root/lib/dunekettle/help.txt"
+sed "s|share/doc/dunekettle-bedtools|share/doc/$name|" "$top/generated/help.txt" > "$root/lib/dunekettle/help.txt"
 chmod 644 "$root/lib/dunekettle/help.txt"
 for link in bedtools mergeBed complementBed intersectBed subtractBed genomeCoverageBed maskFastaFromBed bamToBed; do
     ln -sf ../../../bin/dunekettle "$root/lib/dunekettle/bin/$link"
@@ -72,7 +72,7 @@ sed -E -e "s|^\.Nm bedtools\$|.Nm $name|" \
     "$top/man/bedtools.1" > "$share/man/man1/$name.1"
 sed -E -e "s|dunekettle-bedtools|$name|g" -e "s|docs/([A-Z]+\.md)|$at/share/doc/$name/docs/\1|" \
     -e "s|^\.Pa lib/dunekettle/bin\$|.Pa $at/lib/dunekettle/bin|" "$top/man/dunekettle.1" > "$share/man/man1/dunekettle.1"
-for page in "$top"/man/dunekettle-*.1; do
+for page in "$top"/generated/man/*.1; do
     sed -E -e "s|dunekettle-bedtools|$name|g" -e "s|docs/([A-Z]+\.md)|$at/share/doc/$name/docs/\1|" "$page" > "$share/man/man1/${page##*/}"
 done
 chmod 644 "$share"/man/man1/*.1
@@ -86,7 +86,7 @@ completions() {
         fish) file=fish/vendor_completions.d/$2.fish ;;
         esac
         mkdir -p "$(dirname "$share/$file")"
-        sed "s/$1/$2/g" "$top/completions/$1.$shell" > "$share/$file"
+        sed "s/$1/$2/g" "$top/generated/completions/$1.$shell" > "$share/$file"
         chmod 644 "$share/$file"
     done
 }

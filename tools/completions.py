@@ -295,12 +295,12 @@ def fish_quoted(text):
 def made():
     """Each file and its text."""
     kit, commands = read_options()
-    files = {"front/help.txt": help_text(kit, commands)}
+    files = {"generated/help.txt": help_text(kit, commands)}
     short = {command: (purpose, [(*words, text_of(text)) for *words, text in options])
              for command, (purpose, options) in commands.items()}
     for name in (NAME, FRONT):
         for shell, lines in (("bash", bash_file), ("zsh", zsh_file), ("fish", fish_file)):
-            files[f"completions/{name}.{shell}"] = lines(name, short)
+            files[f"generated/completions/{name}.{shell}"] = lines(name, short)
     texts = {name: "".join(f"{line}\n" for line in lines) for name, lines in files.items()}
     return {**texts, COMMANDS: with_tables(commands)}
 

@@ -1,5 +1,5 @@
 #!/usr/bin/env python3
-"""Writes a manual page of each command: man/dunekettle-COMMAND.1, by its part of COMMANDS.md and by front/options.txt.
+"""Writes a manual page of each command: generated/man/dunekettle-COMMAND.1, by its part of COMMANDS.md and options.txt.
 
 Text, lists and examples are those of COMMANDS.md, without pictures and tables; the options are those of options.txt. An
 example that reads a file of an earlier command begins with the lines that make it. The date is that of man/bedtools.1.
@@ -136,7 +136,7 @@ def made():
     _, commands = read_options()
     parts = sections(commands)
     date = re.search(r"^\.Dd (.*)", read("man/bedtools.1"))[1]
-    return {f"man/dunekettle-{command}.1": manual(command, purpose, options, parts[command], date)
+    return {f"generated/man/dunekettle-{command}.1": manual(command, purpose, options, parts[command], date)
             for command, (purpose, options) in commands.items()}
 
 

@@ -1,5 +1,5 @@
 #!/usr/bin/env python3
-"""Writes the rows of differences.tsv and options.tsv into MIGRATING.md, by command, and front/instead.txt, the hints on
+"""Writes the rows of differences.tsv and options.tsv into MIGRATING.md, by command, and instead.txt, the hints on
 options that aren't taken.
 
     tools/migrating.py           writes them
@@ -22,7 +22,7 @@ PAGE = "docs/MIGRATING.md"
 DIFFERENCES, OPTIONS = "tests/differences/differences.tsv", "tests/differences/options.tsv"
 SCRIPTS = TOP / "recipes"
 # The hints of `dunekettle` on options that aren't taken.
-INSTEAD = "front/instead.txt"
+INSTEAD = "generated/instead.txt"
 KINDS = ("silent", "error", "cosmetic")
 TAKERS = ("bedtools", "Dunekettle", "either")
 # A list of the page: its command, and what is between the two marks.

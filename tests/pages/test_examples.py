@@ -73,7 +73,9 @@ def put_names(examples, folder):
     if is_installed:
         (names / ORIGINAL).symlink_to("/bin/false")
         shutil.copy(TOP / "front" / FRONT, names)
-        shutil.copytree(TOP / "front", Path(folder, "lib", FRONT))
+        files = shutil.copytree(TOP / "front", Path(folder, "lib", FRONT))
+        for name in ("help.txt", "instead.txt"):
+            shutil.copy(TOP / "generated" / name, files)
     return names
 
 

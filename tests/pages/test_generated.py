@@ -10,9 +10,10 @@ import manuals
 import migrating
 import model
 import pictures
+import recipe_table
 from files import TOP, read
 
-TOOLS = (completions, manuals, migrating, model, pictures)
+TOOLS = (completions, manuals, migrating, model, pictures, recipe_table)
 
 
 class Made(NamedTuple):

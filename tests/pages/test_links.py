@@ -11,8 +11,8 @@ from files import read, rows
 from model import REPORT, definitions, model
 
 ARCHITECTURE = "docs/ARCHITECTURE.md"
-PAGES = [page for pattern in ("*.md", "docs/*.md", "bench/*.md", "packaging/*.md", "crates/*/README.md")
-         for page in sorted(TOP.glob(pattern))]
+PATTERNS = ("*.md", "docs/*.md", "bench/*.md", "generated/*.md", "packaging/*.md", "crates/*/README.md")
+PAGES = [page for pattern in PATTERNS for page in sorted(TOP.glob(pattern))]
 LINK = re.compile(r"\[[^\]]*\]\(([^)\s]+)\)")
 CODE = re.compile(r"`[^`]*`")
 # Definitions that stand in a file: their names, and the link to it.
@@ -57,7 +57,8 @@ UNTRUE = {
     r"[Ee]ach (?:claim )?is proved": "the last of the ten claims is tested",
     r"(?<=\| )`no memory`[^\n]*none \|": "memory may run out in the middle",
 }
-WHERE = [*PAGES, *sorted(TOP.glob("man/*.1")), *sorted(TOP.glob("front/*")), TOP / "packaging" / "control"]
+OTHERS = ("man/*.1", "generated/**/*.*", "front/*", "packaging/control")
+WHERE = [*PAGES, *(file for pattern in OTHERS for file in sorted(TOP.glob(pattern)) if file not in PAGES)]
 # Numbers that several files say, each with what it is. Each of them may be said only once in a file.
 SAME = {
     "how much of a stream is copied": {

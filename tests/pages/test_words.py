@@ -15,8 +15,8 @@ from tests.support import TOP, Counted, each
 from files import rows
 
 WORDS = "tests/pages/words.tsv"
-PATTERNS = ("*.md", "docs/*.md", "bench/*.md", "packaging/*.md", "crates/*/README.md", "man/bedtools.1",
-            "man/dunekettle.1")
+PATTERNS = ("*.md", "docs/*.md", "bench/*.md", "generated/*.md", "packaging/*.md", "crates/*/README.md",
+            "man/bedtools.1", "man/dunekettle.1")
 # Words that codespell takes for wrong ones: Rust's crates, the letters of an example, a macro of manual pages.
 RIGHT = "crate,te,nd"
 

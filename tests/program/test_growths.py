@@ -75,6 +75,7 @@ class Growths(InFolder):
                 self.assertIn(b"test result: ok", answer.output, line)
                 self.assertGreater(at, 1, "nothing was refused")
                 return at - 1
-            if answer.status > 127 or not answer.error.startswith(REFUSED) or answer.error.count(b"error: ") > 1:
+            is_refusal = answer.error.startswith(REFUSED) and answer.error.count(b"error: ") == 1
+            if not is_refusal or answer.status not in range(1, 128):
                 self.fail_by_hand(line, REFUSED, shown(answer))
         return self.fail(f"{name}: more than {MOST} growths")
