@@ -29,7 +29,9 @@ loop-fault-init g c = record {
 }
 
 pub returns-in-Err-step : goal.returns-in-Err-step
-returns-in-Err-step g c = grind (arith, common_steps, follows_up_to)
+returns-in-Err-step g c =
+    let step = c.in-Err-step.ensures in
+    grind (arith, (follows_up_to c.loop-fault.invariant.following {new = g.E.Rule.with_on c.step.new.self c.step.new.on} {later = c.step.new.out.output} {fault = c.in-Err-step.fault} (record { does = step.does; fits = step.fits })))
 
 pub loop-fault-preserved : goal.loop-fault-preserved
 loop-fault-preserved g c =
