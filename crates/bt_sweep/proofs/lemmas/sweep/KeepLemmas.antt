@@ -146,8 +146,13 @@ module _ {T : Type 0} (out half : Output) (xs : List ℕ) (r : Result T Fault) (
   pub puts_not : (ys : List ℕ) (b : Bool) → b ≡ is_ok r → b ≡ false → PutsOr b out (xs ++ ys) half
   puts_not ys b is none = subst (λ (c : Bool). PutsOr c out (xs ++ ys) half) (sym none) (not_put ys r (sym is ∙ none) adds)
 
+  put_both : {U : Type 0} (ys : List ℕ) (now : Output) (r : Result T Fault) (p : Result U Fault) → is_ok r ≡ true → Adds out xs r half → Adds half ys p now → PutsOr (is_ok p) out (xs ++ ys) now
+  put_both ys now (Err f) p could first second = absurd (false≢true could)
+  put_both ys now (Ok t) (Ok u) could first second = grown_more out half now xs ys first second
+  put_both ys now (Ok t) (Err f) could first second = subst (λ (f : FaultValue). FailsToAdd out (xs ++ ys) f now) second.puts.is (fails_then out half now xs ys (fault_value f) first second)
+
   pub puts_then : {U : Type 0} (ys : List ℕ) (now : Output) (p : Result U Fault) (b : Bool) → is_ok r ≡ true → b ≡ is_ok p → Adds half ys p now → PutsOr b out (xs ++ ys) now
-  puts_then ys now p b could is second = subst (λ (c : Bool). PutsOr c out (xs ++ ys) now) (sym is) (grind (arith, grown_more, fails_then))
+  puts_then ys now p b could is second = subst (λ (c : Bool). PutsOr c out (xs ++ ys) now) (sym is) (put_both ys now r p could adds second)
 
 pub same_if_put : {T : Type 0} {P : Type 0} (r : Result T Fault) → is_ok r ≡ true → OnOk r P → P
 same_if_put r e h = grind arith
