@@ -99,7 +99,7 @@ check-speed: $(PROGRAM)
 # with the bedtools 2.30.0 on PATH.
 check-differences: $(PROGRAM)
 	$(UNITTEST) -s tests/differences
-	$(UNITTEST) -s tests/recipes
+	$(UNITTEST) -s tests/recipes -p test_recipes.py
 
 # The front and the drop-in: hostile cases, streams and the temporary folder, random command lines, what calls cost, and
 # pipelines, unchanged, with the drop-in first on PATH.
@@ -113,9 +113,9 @@ check-front: $(PROGRAM)
 	tests/drop_in/front_costs.py
 	tests/drop_in/front.py
 
-# The recipes of docs/SHARDS.md, whose bytes have to be those of the whole, and times with 1, 2 and 4 jobs.
+# The recipes of docs/SHARDS.md, whose bytes have to be those of the whole.
 check-shards: $(PROGRAM)
-	tests/recipes/shards.py
+	$(UNITTEST) -s tests/recipes -p test_shards.py
 
 # What make install, make dist and make deb make, tried in folders of their own.
 check-packages: $(PROGRAM)
