@@ -11,7 +11,8 @@ in natural order too; a kind over which bedtools itself ends with an error is sk
 installed, with the program as `dunekettle-bedtools`, and the original isn't on their PATH: there `bedtools` fails. The
 block of MIGRATING.md that compares the two programs is run with both on PATH. needs.tsv says of each script what it is
 for, its limits, and which case its cost is measured by. Ends with 1 if one differs, if a line of REFUSED is taken, if a
-script has no case or no row there, or if the table of RECIPES.md isn't that of these files; and with 0 and a word if there is no such bedtools.
+script has no case or no row there, if packaging/safe.py finds a name or a call by which one does harm, or if the table of
+RECIPES.md isn't that of these files; and with 0 and a word if there is no such bedtools.
 """
 
 import gzip
@@ -406,6 +407,8 @@ def main():
             return 0
         count, unlike = run_cases(folders, words)
     print(f"{count} recipes and command lines tried over {len(KINDS)} kinds of files, {unlike} of them differ")
+    if not words:
+        unlike += subprocess.run([TOP / "packaging" / "safe.py", "recipes", SCRIPTS], check=False).returncode
     return 1 if unlike or differ or wrong else 0
 
 

@@ -8,7 +8,7 @@ parallel over files of each kind below, by Snakemake, and by a job array of Slur
 started in a folder of its own, with nothing of a Slurm that is there already. Shards with a fault are run too, and the
 times of runs over N records (1,000,000 where it is missing) with 1, 2 and 4 jobs are printed, with --times the least of
 so many rounds; beside each stands what other work took of the processors meanwhile. With --only just the parts with
-these names are run: pages, parallel, faults, ssh, snakemake, slurm, times. Ends with 1 where bytes differ or a fault
+these names are run: parallel, names, faults, ssh, snakemake, slurm, times. Ends with 1 where bytes differ or a fault
 isn't shown as the page says, and says which tools aren't on PATH and what wasn't tried for that.
 """
 
@@ -218,6 +218,25 @@ def by_parallel(top):
     print(f"parallel: {len(COMMANDS) + len(BY_NAME)} command lines over {len(KINDS)} kinds of files and {len(ALIGNMENTS)} of "
           f"bamtobed, each in shards of 25 chromosomes or of 8 parts; {same.count(False)} of {len(same)} differ")
     return same.count(False)
+
+
+def names_of_files(top):
+    """Files and chromosomes of any name: GNU parallel's recipe over files with odd names, and packaging/safe.py."""
+    folder = folder_of(top, KINDS[1])
+    wanted, same = whole(WORDS, folder).stdout, []
+    for name in ("two words", "$(touch hit)", "a=1", "-x", "*"):
+        for file in ("a.bed", "b.bed", "genome.txt"):
+            shutil.copy(folder / file, folder / f"{name}.{file}")
+        script = re.sub(r"\b(?:[ab]\.bed|genome\.txt)", lambda found, name=name: f"'{name}.'{found[0]}", recipe(WORDS))
+        clean(folder, "hits.bed")
+        done = run(script, folder)
+        same.append((done.returncode, Path(folder, "hits.bed").exists() and Path(folder, "hits.bed").read_bytes()) == (0, wanted))
+        if not same[-1]:
+            print(f"{script}: status {done.returncode}\n{done.stderr[-1200:]}")
+    same.append(not Path(folder, "hit").exists())
+    shutil.rmtree(folder)
+    print(f"parallel: files of {len(same) - 1} odd names, {same.count(False)} differ")
+    return same.count(False) + subprocess.run([TOP / "packaging" / "safe.py", "shards", FILES], check=False).returncode
 
 
 def by_snakemake(top):
@@ -499,7 +518,7 @@ def main():
     if missing:
         print(f"no {' and no '.join(missing)} on PATH: no shard was tried")
         return pages()
-    parts = {"parallel": by_parallel, "faults": faults, "ssh": by_ssh, "snakemake": lambda top: by_snakemake(top) + snakemake_fault(top),
+    parts = {"parallel": by_parallel, "names": names_of_files, "faults": faults, "ssh": by_ssh, "snakemake": lambda top: by_snakemake(top) + snakemake_fault(top),
              "slurm": by_slurm, "times": lambda top: times(top, given.records, given.times)}
     if not shutil.which("snakemake"):
         print("no snakemake on PATH: the Snakefile wasn't tried")
