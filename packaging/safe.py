@@ -172,7 +172,7 @@ def try_cuts(scripts, top, count):
             made.write_text("".join(lines[:number]), encoding="utf-8")
             made.chmod(0o755)
             output, status, said = run([made, "merge", "-i", "a.bed"], folder)
-            count.expect(f"{script.name}, cut behind line {number}", (b"", True, True), (output, status != 0, "unexpected" in said))
+            count.expect(f"{script.name}, cut behind line {number}", (b"", True, True), (output, status != 0, re.search("unexpected|[Uu]nterminated", said) is not None))
 
 
 def try_files_of_shards(shards, top, count):
