@@ -18,10 +18,12 @@ from contextlib import ExitStack
 from pathlib import Path
 from typing import NamedTuple
 
-from tests.recipes.shard_runs import (ALIGNMENTS, CHROMOSOMES, KINDS, PAGE, SEQUENCES, WORDS, block, blocks, clean,
-                                      exchanged, fill, folder_of, recipe, run, wait_until, whole)
+from tests.recipes.shard_runs import (ALIGNMENTS, CHROMOSOMES, FILES, KINDS, PAGE, SEQUENCES, WORDS, block, blocks,
+                                      clean, exchanged, fill, folder_of, recipe, run, wait_until, whole)
 from tests.support import Counted, each
 
+# Tries names, cuts and links that may do harm.
+SAFE = Path(__file__).with_name("safe.py")
 # A recipe has so many lines at most.
 LINES = 10
 COMMANDS = [
@@ -109,6 +111,34 @@ class Parallel(Shards):
         last = f"{'r' * 300}\t0\tchr1\t9\t9\t4M\t*\t0\t0\tACGT\t*"
         Path(few, "reads.sam").write_text(text + last, encoding="utf-8")
         self.expect_same(ALIGNMENTS, recipe(ALIGNMENTS), few)
+
+
+class Name(NamedTuple):
+    """What the names of files begin with."""
+
+    name: str
+
+
+@each([Name("two words"), Name("$(touch hit)"), Name("a=1"), Name("-x"), Name("*")])
+class OddNames(Shards):
+    """GNU parallel's recipe over files with odd names."""
+
+    said = "{runs} runs over files with odd names"
+
+    def case(self, odd):
+        folder = self.top / self._testMethodName
+        fill(folder, KINDS[1])
+        for file in ("a.bed", "b.bed", "genome.txt"):
+            shutil.copy(folder / file, folder / f"{odd.name}.{file}")
+        names = r"\b(?:[ab]\.bed|genome\.txt)"
+        script = re.sub(names, lambda found: f"'{odd.name}.'{found[0]}", recipe(WORDS))
+        self.expect_same(WORDS, script, folder)
+        self.assertFalse((folder / "hit").exists())
+
+    def test_names_and_chromosomes(self):
+        """What safe.py tries of these scripts."""
+        ran = subprocess.run([SAFE, "shards", FILES], capture_output=True, text=True, check=False)
+        self.assertEqual(ran.returncode, 0, ran.stdout + ran.stderr)
 
 
 class Input(NamedTuple):
