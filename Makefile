@@ -6,16 +6,19 @@
 # make uninstall removes them, make dist packs them into a tarball, make deb into a Debian package, and make check-packages
 # tries all of these.
 PREFIX ?= /usr/local
-# The name of the installed program: not `bedtools`, which it would hide.
-NAME ?= dunekettle-bedtools
+# The name of the installed program: not `bedtools`, which it would hide. It comes from the command line of make alone, since
+# others use a variable of this name.
+NAME := dunekettle-bedtools
+export NAME
 
 # The processor to build for, where it isn't x86-64-v2: make CPU=x86-64-v3 builds bin/x86-64-v3/bedtools, which needs AVX2.
 CPU ?=
 
 # The version stands in CHANGELOG.md.
 VERSION := $(shell sed -n 's/^## //p' CHANGELOG.md | head -n 1)
-# A package of one commit is the same each time: its files have the date of the commit, or without git of CHANGELOG.md.
-DATE := $(shell git log -1 --format=%ct 2> /dev/null || stat -c %Y CHANGELOG.md)
+# A package of one commit is the same each time: its files have the date that SOURCE_DATE_EPOCH says, or else that of the
+# commit, or without git of CHANGELOG.md. Who owns the folder is no matter: whoever runs make runs what is in it.
+DATE := $(or $(SOURCE_DATE_EPOCH),$(shell git -c safe.directory='*' log -1 --format=%ct 2> /dev/null || stat -c %Y CHANGELOG.md))
 DIST := dunekettle-$(VERSION)-$(or $(CPU),$(shell uname -m))
 DEB = dunekettle-bedtools_$(VERSION)_$(or $(CPU),$(shell dpkg --print-architecture)).deb
 
@@ -29,7 +32,7 @@ SOURCES := crates.txt $(shell find crates -name out -prune -o -type f \( -name '
 
 DOCS := README.md CHANGELOG.md LICENSE $(wildcard docs/*.md docs/*.svg) $(wildcard bench/*.md bench/*.svg) \
 	tests/differences/differences.tsv tests/drop_in/front_costs.tsv tests/drop_in/front_pipelines.tsv bench/odd.tsv bench/results.tsv \
-	CITATION.cff $(shell find shards recipes -type f)
+	CITATION.cff SECURITY.md packaging/copyright packaging/sbom.spdx.json
 
 .PHONY: all built example test mutants definitions check-docs check-program check-speed check-differences check-front check-shards \
 	check-packages pictures completions install uninstall dist deb clean
@@ -99,7 +102,7 @@ check-speed: $(PROGRAM)
 # with the bedtools 2.30.0 on PATH.
 check-differences: $(PROGRAM)
 	$(UNITTEST) -s tests/differences
-	$(UNITTEST) -s tests/recipes
+	$(UNITTEST) -s tests/recipes -p test_recipes.py
 
 # The front and the drop-in: hostile cases, streams and the temporary folder, random command lines, what calls cost, and
 # pipelines, unchanged, with the drop-in first on PATH.
@@ -113,9 +116,9 @@ check-front: $(PROGRAM)
 	tests/drop_in/front_costs.py
 	tests/drop_in/front.py
 
-# The recipes of docs/SHARDS.md, whose bytes have to be those of the whole, and times with 1, 2 and 4 jobs.
+# The recipes of docs/SHARDS.md, whose bytes have to be those of the whole.
 check-shards: $(PROGRAM)
-	tests/recipes/shards.py
+	$(UNITTEST) -s tests/recipes -p test_shards.py
 
 # What make install, make dist and make deb make, tried in folders of their own.
 check-packages: $(PROGRAM)
@@ -130,15 +133,14 @@ completions:
 
 # The manual pages and the completions get the program's name there.
 install: $(PROGRAM)
-	install -D $(PROGRAM) "$(DESTDIR)$(PREFIX)/bin/$(NAME)"
-	packaging/install.sh "$(DESTDIR)$(PREFIX)" "$(PREFIX)" "$(NAME)" $(DOCS)
+	packaging/install.sh "$(DESTDIR)$(PREFIX)" "$(PREFIX)" "$$NAME" $(PROGRAM) $(DOCS)
 
 uninstall:
-	packaging/uninstall.sh "$(DESTDIR)$(PREFIX)" "$(NAME)"
+	packaging/uninstall.sh "$(DESTDIR)$(PREFIX)" "$$NAME"
 
 dist: $(PROGRAM)
 	rm -rf bin/$(DIST)
-	$(MAKE) install DESTDIR="$(CURDIR)/bin/$(DIST)/" PREFIX=. NAME="$(NAME)"
+	$(MAKE) install DESTDIR="$(CURDIR)/bin/$(DIST)/" PREFIX=. NAME="$$NAME"
 	packaging/dist.sh bin/$(DIST) $(DATE)
 
 deb: $(PROGRAM)

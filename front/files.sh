@@ -5,10 +5,12 @@
 # open_files NAME..: opens an empty file for each, and sets `dk_NAME` to where it is. Its name in TMPDIR is gone by
 # then, so that nothing is left of it, however this ends.
 open_files() {
+    trap 'end_by PIPE' PIPE
     dk_folder=$(mktemp -d "${TMPDIR:-/tmp}/dunekettle-XXXXXX" 2> /dev/null) || {
         # One that was killed may have made it. Half of a name is no name.
         case $dk_folder in "${TMPDIR:-/tmp}"/dunekettle-??????) rm -rf "$dk_folder" ;; esac
         dk_folder=''
+        trap - PIPE
         return 1
     }
     dk_opened=0
@@ -20,6 +22,7 @@ open_files() {
     done 2> /dev/null
     rm -rf "$dk_folder"
     dk_folder=''
+    trap - PIPE
     [ "$dk_opened" = $# ] && { true < "/dev/fd/$dk_free"; } 2> /dev/null
 }
 
@@ -46,8 +49,21 @@ await() {
 
 # is_running PROCESS: whether it is there, and not its status alone
 is_running() {
-    IFS= read -r dk_line < "/proc/$1/stat" || return
+    [ -e "/proc/$1" ] || return
+    dk_line=''
+    { IFS= read -r dk_line < "/proc/$1/stat"; } 2> /dev/null
+    # If it can't be read for now, it runs until it is gone.
     case ${dk_line##*")"} in " Z"* | " X"*) return 1 ;; esac
+}
+
+# started PROCESS: sets `dk_started` to when it was, by which one is known whose number is given to another later
+started() {
+    dk_started=''
+    IFS= read -r dk_line < "/proc/$1/stat" || return
+    # shellcheck disable=SC2086
+    set -- ${dk_line##*") "}
+    shift 19
+    dk_started=$1
 } 2> /dev/null
 
 # finish STATUS: ends as a process did that had this status

@@ -28,8 +28,8 @@ plan() {
     [ -n "$dk_why" ] || judge_version
     [ -z "$dk_why" ] || by_original "$dk_why" "$dk_command" "$@"
     ! reads_standard_input || set -- "$@" -i -
-    open_copies "$@" || by_original 'TMPDIR takes no file, or too many are open' "$dk_command" "$@"
     heed_signals
+    open_copies "$@" || by_original 'TMPDIR takes no file, or too many are open' "$dk_command" "$@"
     with_copies "$@"
 }
 

@@ -37,7 +37,9 @@ pour() {
 
 # feed_noted STREAM COPY: feeds, and notes its process first, then that it has ended well or its reader is gone
 feed_noted() {
-    IFS=' ' read -r dk_feeder dk_line < /proc/self/stat && note feeder "$dk_feeder" && echo || exit
+    IFS=' ' read -r dk_feeder dk_line < /proc/self/stat && started "$dk_feeder" || exit
+    dk_feeder=$dk_feeder:$dk_started
+    note feeder "$dk_feeder" && echo || exit
     feed "$1" "$2" 2> /dev/null
     case $? in
     0 | 141) note fed "$dk_feeder" ;;
@@ -81,7 +83,11 @@ end_feeders() {
     while [ $# -gt 1 ]; do
         case $1 in
         lost) dk_lost=1 ;;
-        feeder) if is_running "$2"; then end_with_children "$2"; else is_noted "fed $2" || dk_lost=1; fi ;;
+        feeder)
+            if is_running "${2%:*}" && started "${2%:*}" && [ "$dk_started" = "${2#*:}" ]; then end_with_children "${2%:*}"
+            else is_noted "fed $2" || dk_lost=1
+            fi
+            ;;
         esac
         shift 2
     done

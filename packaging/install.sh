@@ -1,52 +1,93 @@
 #!/bin/sh
-# Installs the front, the drop-in, the pages, the manual pages and the completions beside the program.
+# shellcheck disable=SC2317 # a word of put calls a function
+{ # The shell reads all of it before it runs any, so that a script that was cut ends with an error.
+# Installs the program, the front, the drop-in, the recipes, the pages, the manual pages and the completions.
 #
-#     packaging/install.sh ROOT AT NAME DOC..
+#     packaging/install.sh ROOT AT NAME PROGRAM DOC..
 #
-# ROOT is the folder of the installation now, AT where it will be, NAME the program's name in ROOT/bin.
+# ROOT is the folder of the installation now, AT where it will be, NAME the program's name in ROOT/bin. Each file is
+# written beside its place and then renamed: whoever runs it meanwhile has the old one or the new one, whole. All users can
+# read what is installed, whatever the umask.
 set -eu
+umask 022
 
-root=$1 at=$2 name=$3
-shift 3
+root=$1 at=$2 name=$3 program=$4
+shift 4
 top=$(dirname "$0")/..
 share=$root/share
 commands='merge|complement|intersect|subtract|genomecov|bamtobed|maskfasta'
 
-case $name in dunekettle | */*) echo "NAME=$name is taken, or no name"; exit 1 ;; esac
+case $name in
+'' | dunekettle | [!A-Za-z0-9]* | *[!A-Za-z0-9._+-]*) is_name='' ;;
+*) is_name=1 ;;
+esac
+# Their manual pages have such names.
+case ${name#dunekettle-} in merge | complement | intersect | subtract | genomecov | bamtobed | maskfasta) is_name='' ;; esac
+if [ -z "$is_name" ]; then
+    echo "NAME=$name is taken, or isn't one of letters, digits and ._+-" >&2
+    exit 1
+fi
 
-# The front, and the names of bedtools that lead to it: relative links, so that a folder may be moved.
-install -D "$top/front/dunekettle" "$root/bin/dunekettle"
-sed "s|^dk_name=.*|dk_name=$name|" "$top/front/dunekettle" > "$root/bin/dunekettle"
-mkdir -p "$root/lib/dunekettle/bin"
+# put MODE FILE WORD..: what the words write becomes the file
+put() {
+    put_mode=$1 put_file=$2
+    shift 2
+    mkdir -p "${put_file%/*}"
+    if ! { "$@" > "$put_file.new" && chmod "$put_mode" "$put_file.new" && mv -fT "$put_file.new" "$put_file"; }; then
+        rm -f "$put_file.new"
+        echo "$put_file can't be installed" >&2
+        exit 1
+    fi
+}
+
+# link TARGET FILE: a link, put into its place in the same way
+link() {
+    mkdir -p "${2%/*}"
+    rm -f "$2.new"
+    ln -s "$1" "$2.new"
+    mv -fT "$2.new" "$2"
+}
+
+# as_replacement TEXT: so that sed puts it as it is
+as_replacement() { printf '%s\n' "$1" | sed 's/[&|\\]/\\&/g'; }
+
+# The parts of the front before what reads them; and the names of bedtools that lead to it: relative links, so that a
+# folder may be moved.
 for file in "$top"/front/*.sh "$top"/front/*.awk "$top/generated/instead.txt"; do
-    install -m 644 "$file" "$root/lib/dunekettle/${file##*/}"
+    put 644 "$root/lib/dunekettle/${file##*/}" cat "$file"
 done
-sed "s|share/doc/dunekettle-bedtools|share/doc/$name|" "$top/generated/help.txt" > "$root/lib/dunekettle/help.txt"
-chmod 644 "$root/lib/dunekettle/help.txt"
-for link in bedtools mergeBed complementBed intersectBed subtractBed genomeCoverageBed maskFastaFromBed bamToBed; do
-    ln -sf ../../../bin/dunekettle "$root/lib/dunekettle/bin/$link"
+put 644 "$root/lib/dunekettle/help.txt" sed "s|share/doc/dunekettle-bedtools|share/doc/$name|" "$top/generated/help.txt"
+put 755 "$root/bin/$name" cat "$program"
+put 755 "$root/bin/dunekettle" sed "s|^dk_name=.*|dk_name=$name|" "$top/front/dunekettle"
+for file in bedtools mergeBed complementBed intersectBed subtractBed genomeCoverageBed maskFastaFromBed bamToBed; do
+    link ../../../bin/dunekettle "$root/lib/dunekettle/bin/$file"
 done
 
+# The scripts call the program by its name there. They aren't below share/doc, which some systems leave out; a link leads
+# there from the pages.
 doc=$share/doc/$name
-for page; do
-    mode=644
-    [ ! -x "$top/$page" ] || mode=755
-    install -D -m "$mode" "$top/$page" "$doc/$page"
-done
+if [ $# -gt 0 ]; then
+    for folder in recipes shards; do
+        find "$top/$folder" -type f | while IFS= read -r file; do
+            mode=644
+            [ ! -x "$file" ] || mode=755
+            put "$mode" "$share/dunekettle/$folder/${file#"$top/$folder/"}" sed "s/dunekettle-bedtools/$name/g" "$file"
+        done
+    done
+    # An installation before this one has them in a folder there.
+    rm -rf "$doc/examples"
+    link ../../dunekettle/recipes "$doc/recipes"
+    link ../../dunekettle/shards "$doc/shards"
+fi
 
-# The recipes call the program by its name there.
-recipes=recipes/functions.sh
-[ ! -f "$doc/$recipes" ] || sed "s/dunekettle-bedtools/$name/g" "$top/$recipes" > "$doc/$recipes"
-
-# Of a page's links those that lead to no installed file become their text: it is in the repository alone.
-# A heading that such a link names isn't looked at: test_links.py does that.
-for page; do
-    case $page in *.md) ;; *) continue ;; esac
-    folder=$doc/$page
-    LC_ALL=C awk -v folder="${folder%/*}" '
+# with_links PAGE: of a page's links those that lead to no installed file become their text: it is in the repository
+# alone. A heading that such a link names isn't looked at: test_links.py does that.
+with_links() {
+    folder=$doc/$1
+    folder=${folder%/*} LC_ALL=C awk '
         function is_there(target) {
             sub(/#.*/, "", target)
-            return target == "" || target ~ /:\/\// || !system("[ -e \"" folder "/" target "\" ]")
+            return target == "" || target ~ /:\/\// || !system("[ -e \"$folder/" target "\" ]")
         }
         /^    / { print; next }
         {
@@ -60,22 +101,33 @@ for page; do
                 rest = substr(rest, RSTART + RLENGTH)
             }
             print made rest
-        }' "$top/$page" > "$doc/$page"
+        }' "$top/$1"
+}
+
+# All pages are there before the links of the first are looked at. What is made for a package stands beside them.
+for page; do
+    case $page in
+    *.md) [ -e "$doc/$page" ] || put 644 "$doc/$page" cat "$top/$page" ;;
+    packaging/*) put 644 "$doc/${page##*/}" cat "$top/$page" ;;
+    *) put 644 "$doc/$page" cat "$top/$page" ;;
+    esac
+done
+for page; do
+    case $page in *.md) put 644 "$doc/$page" with_links "$page" ;; esac
 done
 
 # In the examples `bedtools` followed by a command becomes the name; fault lines, as `bedtools merge: ..`, stay.
-mkdir -p "$share/man/man1"
-sed -E -e "s|^\.Nm bedtools\$|.Nm $name|" \
+pages=$(as_replacement "$at/share/doc/$name/docs")
+put 644 "$share/man/man1/$name.1" sed -E -e "s|^\.Nm bedtools\$|.Nm $name|" \
     -e "s|^\.Dt BEDTOOLS |.Dt $(printf '%s' "$name" | tr '[:lower:]' '[:upper:]') |" \
     -e "s/bedtools ($commands)( |\$)/$name \1\2/g" \
-    -e "s|docs/([A-Z]+\.md)|$at/share/doc/$name/docs/\1|" \
-    "$top/man/bedtools.1" > "$share/man/man1/$name.1"
-sed -E -e "s|dunekettle-bedtools|$name|g" -e "s|docs/([A-Z]+\.md)|$at/share/doc/$name/docs/\1|" \
-    -e "s|^\.Pa lib/dunekettle/bin\$|.Pa $at/lib/dunekettle/bin|" "$top/man/dunekettle.1" > "$share/man/man1/dunekettle.1"
+    -e "s|docs/([A-Z]+\.md)|$pages/\1|" \
+    "$top/man/bedtools.1"
+put 644 "$share/man/man1/dunekettle.1" sed -E -e "s|dunekettle-bedtools|$name|g" -e "s|docs/([A-Z]+\.md)|$pages/\1|" \
+    -e "s|^\.Pa lib/dunekettle/bin\$|.Pa $(as_replacement "$at")/lib/dunekettle/bin|" "$top/man/dunekettle.1"
 for page in "$top"/generated/man/*.1; do
-    sed -E -e "s|dunekettle-bedtools|$name|g" -e "s|docs/([A-Z]+\.md)|$at/share/doc/$name/docs/\1|" "$page" > "$share/man/man1/${page##*/}"
+    put 644 "$share/man/man1/${page##*/}" sed -E -e "s|dunekettle-bedtools|$name|g" -e "s|docs/([A-Z]+\.md)|$pages/\1|" "$page"
 done
-chmod 644 "$share"/man/man1/*.1
 
 # completions WORD INSTALLED: those of a program, where each shell looks for them
 completions() {
@@ -85,10 +137,10 @@ completions() {
         zsh) file=zsh/site-functions/_$2 ;;
         fish) file=fish/vendor_completions.d/$2.fish ;;
         esac
-        mkdir -p "$(dirname "$share/$file")"
-        sed "s/$1/$2/g" "$top/generated/completions/$1.$shell" > "$share/$file"
-        chmod 644 "$share/$file"
+        put 644 "$share/$file" sed "s/$1/$2/g" "$top/generated/completions/$1.$shell"
     done
 }
 completions dunekettle-bedtools "$name"
 completions dunekettle dunekettle
+exit
+}

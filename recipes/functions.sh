@@ -1,15 +1,8 @@
 # shellcheck shell=bash
 # Functions of the recipes, which each script reads. BEDTOOLS names the program, if it isn't dunekettle-bedtools; GENOME a
-# genome file, if the chromosomes aren't in the order of their bytes.
-# shellcheck disable=SC2034,SC2154 # options are variables that only some scripts read
-set -euo pipefail
-export LC_ALL=C
-unset "${!opt_@}"
-# Without words a script shows how it is called: its own head.
-if [ $# = 0 ] || [ "$1" = --help ]; then
-    sed -n '2,9{/^# shellcheck/q; s/^# //p}' "$0" >&2
-    exit 2
-fi
+# genome file, if the chromosomes aren't in the order of their bytes. Each script is one group, which bash reads to its
+# end before it runs any of it: one that was cut ends with an error, and so does one that doesn't find this file whole.
+# shellcheck disable=SC2016,SC2034,SC2154 # `from` runs awk; options are variables that only some scripts read
 TAB=$(printf '\t')
 
 # bt COMMAND WORD..: the program, with the genome file GENOME if there is one
@@ -21,12 +14,19 @@ bt() {
 }
 fail() { echo "${0##*/}: $1" >&2; exit 2; }
 
+# from FILE WORD..: runs the words, which read the file as standard input: its name may be one that a tool takes for an
+# option, or awk, as `a=b.bed`, for an assignment
+from() {
+    local file=$1
+    shift
+    if [ "$file" = - ]; then "$@"; else "$@" < "$file"; fi
+}
+
 # twice FILE: fails unless it can be read twice, as no pipe can: records would be lost
 twice() { [ -f "$1" ] || fail "$1 is read twice, and is no file: write it to one"; }
-[ -z "${GENOME-}" ] || twice "$GENOME"
 
-# A folder of this run, which is removed at its end.
-work() { folder=$(mktemp -d) && trap 'rm -rf "$folder"' EXIT; }
+# A folder of this run, which is removed at its end; awk finds it in ENVIRON, where a backslash is one.
+work() { folder=$(mktemp -d) && export folder && trap 'rm -rf "$folder"' EXIT; }
 
 # read_words KNOWN WORD..: the options of a command line, as variables opt_X; those in KNOWN that end with : have a value.
 # `files` has the files of -b, which are several only if KNOWN has ..
@@ -63,24 +63,27 @@ one_of() {
 
 # records FILE: its records, without header lines, blank lines and CR
 records() {
-    awk -F'\t' '{ sub(/\r$/, "") }
-        NF && !/^(#|(track|browser)([ \t]|$))/' "$1"
+    from "$1" awk -F'\t' '{ sub(/\r$/, "") }
+        NF && !/^(#|(track|browser)([ \t]|$))/'
 }
 
 # carry FILE: each record as six columns, with its number as the name, and its line as a seventh.
 # lines: the lines again
 carry() {
-    awk -F'\t' -v OFS='\t' '{ sub(/\r$/, ""); line = $0
+    from "$1" awk -F'\t' -v OFS='\t' '{ sub(/\r$/, ""); line = $0
         gsub(/\t/, "\001", line) }
         NF && !/^(#|(track|browser)([ \t]|$))/ {
-            print $1, $2, $3, NR, 0, $6, line }' "$1"
+            print $1, $2, $3, NR, 0, $6, line }'
 }
 lines() { cut -f 7- | tr '\001' '\t'; }
 
 # by_genome FILE: standard input in the order of a genome file
 by_genome() {
-    awk -F'\t' 'NR == FNR { rank[$1] = NR; next }
-        { print rank[$1] + 0 "\t" $0 }' "$1" - |
+    [ "$1" != - ] || fail 'standard input is what is sorted'
+    genome=$1 awk -F'\t' 'BEGIN {
+        while ((got = (getline < ENVIRON["genome"])) > 0) rank[$1] = ++n
+        if (got < 0) { print "no genome file: " ENVIRON["genome"] > "/dev/stderr"; exit 2 } }
+        { print rank[$1] + 0 "\t" $0 }' |
         sort -s -t "$TAB" -k1,1n -k3,3n | cut -f 2-
 }
 
@@ -91,8 +94,8 @@ in_order() {
 
 # swap_strands FILE: the records that have a strand, with the other one
 swap_strands() {
-    awk -F'\t' -v OFS='\t' '{ sub(/\r$/, "") }
-        $6 ~ /^[+-]$/ { $6 = $6 == "+" ? "-" : "+"; print }' "$1"
+    from "$1" awk -F'\t' -v OFS='\t' '{ sub(/\r$/, "") }
+        $6 ~ /^[+-]$/ { $6 = $6 == "+" ? "-" : "+"; print }'
 }
 
 # Numbers of 32 bits, as bedtools computes them.
@@ -101,7 +104,7 @@ single='function single(x,  c) { c = x * 536870913; return c - (c - x) }
 
 # bam_genome FILE: the chromosomes of a BAM file as a genome file
 bam_genome() {
-    samtools view -H "$1" | awk -F'\t' '/^@SQ/ {
+    from "$1" samtools view -H - | awk -F'\t' '/^@SQ/ {
         for (i = 2; i <= NF; i++) {
             if ($i ~ /^SN:/) name = substr($i, 4)
             if ($i ~ /^LN:/) size = substr($i, 4) }
@@ -110,3 +113,16 @@ bam_genome() {
 exchange_d_n() { awk -F'\t' -v OFS='\t' '{ gsub(/N/, "n", $6)
     gsub(/D/, "N", $6); gsub(/n/, "D", $6); print }'; }
 n_for_d() { awk -F'\t' -v OFS='\t' '{ gsub(/D/, "N", $6); print }'; }
+
+# begin WORD..: what each script does first; it stands last here, so that it is missing if this file was cut
+begin() {
+    set -euo pipefail
+    export LC_ALL=C
+    unset "${!opt_@}"
+    # Without words a script shows how it is called: its own head.
+    if [ $# = 0 ] || [ "$1" = --help ]; then
+        sed -n '4,12{/^# /!q; s/^# //p}' < "$here" >&2
+        exit 2
+    fi
+    [ -z "${GENOME-}" ] || twice "$GENOME"
+}

@@ -1,9 +1,13 @@
 #!/bin/bash
+# shellcheck disable=SC2016,SC2154
+{
 # genomecov-bam.sh -ibam BAM [-split] [-ignoreD] [-du] [-strand S] [-5 | -3] -bg | -bga | -d: for genomecov -ibam, whose
 # genome is that of the header. bedtools leaves out deletions (D) and counts introns (N); with -split it leaves out both,
 # with -ignoreD it counts deletions.
-# shellcheck source=functions.sh source-path=SCRIPTDIR disable=SC2154
-. "${BASH_SOURCE%/*}/functions.sh"
+here=$(readlink -f -- "${BASH_SOURCE[0]}") || exit 2
+# shellcheck source=functions.sh source-path=SCRIPTDIR
+. "${here%/*}/functions.sh" || exit 2
+begin "$@" || exit 2
 read_words '-ibam: -strand: -bg -bga -d -5 -3 -split -ignoreD -du' "$@"
 one_of -bg -bga -d
 twice "$opt_ibam"
@@ -17,9 +21,11 @@ cut_at() {
 split=(-split)
 [ -z "${opt_5-}${opt_3-}" ] || split=()
 [ -z "${opt_ignoreD-}" ] || split=(${opt_split:+-split})
-samtools view "$opt_ibam" | cut_at | bt bamtobed "${split[@]}" | awk -F'\t' -v OFS='\t' -v du="${opt_du-}" -v five="${opt_5-}" -v three="${opt_3-}" '
+from "$opt_ibam" samtools view - | cut_at | bt bamtobed "${split[@]}" | awk -F'\t' -v OFS='\t' -v du="${opt_du-}" -v five="${opt_5-}" -v three="${opt_3-}" '
     du && $4 ~ /\/2$/ { $6 = $6 == "+" ? "-" : "+" }
     five || three { p = three ? ($6 == "-" ? $2 : $3 - 1) : ($6 == "+" ? $2 : $3 - 1); $2 = p; $3 = p + 1 }
     { print }' | by_genome "$folder/genome" |
     bt genomecov -g "$folder/genome" ${opt_strand:+-strand "$opt_strand"} "-bg${opt_bga:+a}${opt_d:+a}" |
     if [ -n "${opt_d-}" ]; then awk -F'\t' '{ for (i = $2 + 1; i <= $3; i++) printf "%s\t%.0f\t%s\n", $1, i, $4 }'; else cat; fi
+exit
+}

@@ -1,7 +1,11 @@
 #!/bin/bash
+# shellcheck disable=SC2016,SC2154
+{
 # genomecov-split.sh -i FILE -g GENOME -bg | -bga [-strand S]: counts the blocks of BED12 alone.
-# shellcheck source=functions.sh source-path=SCRIPTDIR disable=SC2154
-. "${BASH_SOURCE%/*}/functions.sh"
+here=$(readlink -f -- "${BASH_SOURCE[0]}") || exit 2
+# shellcheck source=functions.sh source-path=SCRIPTDIR
+. "${here%/*}/functions.sh" || exit 2
+begin "$@" || exit 2
 read_words '-i: -g: -strand: -bg -bga' "$@"
 one_of -bg -bga
 twice "$opt_g"
@@ -11,3 +15,5 @@ records "$opt_i" | awk -F'\t' -v OFS='\t' '
       for (i = 1; i <= n; i++) if (size[i]) print $1, $2 + from[i],
           $2 + from[i] + size[i], ".", 0, $6 }' | by_genome "$opt_g" |
     bt genomecov -g "$opt_g" "-bg${opt_bga:+a}" ${opt_strand:+-strand "$opt_strand"}
+exit
+}

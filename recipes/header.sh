@@ -1,7 +1,11 @@
 #!/bin/bash
+# shellcheck disable=SC2016,SC2154
+{
 # header.sh COMMAND WORD..: for -header. The header lines of -i or -a, and then the command's output.
-# shellcheck source=functions.sh source-path=SCRIPTDIR disable=SC2154
-. "${BASH_SOURCE%/*}/functions.sh"
+here=$(readlink -f -- "${BASH_SOURCE[0]}") || exit 2
+# shellcheck source=functions.sh source-path=SCRIPTDIR
+. "${here%/*}/functions.sh" || exit 2
+begin "$@" || exit 2
 file='' before=''
 for word; do
     case $before in -i | -a) file=$word ;; esac
@@ -9,6 +13,8 @@ for word; do
 done
 [ -n "$file" ] || fail 'no input is named'
 twice "$file"
-awk '!/^#/ && !/^(track|browser)([ \t\r]|$)/ { exit }
-    { sub(/\r$/, ""); print }' "$file"
+from "$file" awk '!/^#/ && !/^(track|browser)([ \t\r]|$)/ { exit }
+    { sub(/\r$/, ""); print }'
 bt "$@"
+exit
+}

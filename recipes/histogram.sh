@@ -1,7 +1,11 @@
 #!/bin/bash
+# shellcheck disable=SC2016,SC2154
+{
 # histogram.sh -i FILE -g GENOME [-max N] [-strand S]: the histogram of genomecov. Chromosomes without a record come last.
-# shellcheck source=functions.sh source-path=SCRIPTDIR disable=SC2154
-. "${BASH_SOURCE%/*}/functions.sh"
+here=$(readlink -f -- "${BASH_SOURCE[0]}") || exit 2
+# shellcheck source=functions.sh source-path=SCRIPTDIR
+. "${here%/*}/functions.sh" || exit 2
+begin "$@" || exit 2
 read_words '-i: -g: -max: -strand:' "$@"
 bt genomecov -i "$opt_i" -g "$opt_g" ${opt_strand:+-strand "$opt_strand"} -bga |
     awk -F'\t' -v OFS='\t' -v max="${opt_max:-0}" "$single"'
@@ -13,3 +17,5 @@ bt genomecov -i "$opt_i" -g "$opt_g" ${opt_strand:+-strand "$opt_strand"} -bga |
       size[$1] = $3; if ($4 > top) top = $4 + 0; if ($4) hit[$1] }
     END { for (late = 0; late < 2; late++) for (i = 1; i <= m; i++)
     if ((c[i] in hit) != late) rows(c[i], size[c[i]]); rows("genome", sum) }'
+exit
+}

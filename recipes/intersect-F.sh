@@ -1,8 +1,12 @@
 #!/bin/bash
+# shellcheck disable=SC2016,SC2154
+{
 # intersect-F.sh -a A -b B -F F [-f F] [-e] [-s] [-wo | -wa [-wb] | -u | -c | -v]: for -F, alone or beside -f, and for -e.
 # awk compares about sixteen digits, bedtools seven.
-# shellcheck source=functions.sh source-path=SCRIPTDIR disable=SC2154
-. "${BASH_SOURCE%/*}/functions.sh"
+here=$(readlink -f -- "${BASH_SOURCE[0]}") || exit 2
+# shellcheck source=functions.sh source-path=SCRIPTDIR
+. "${here%/*}/functions.sh" || exit 2
+begin "$@" || exit 2
 read_words '-a: -b: -f: -F: -e -s -sorted -wo -wa -wb -u -c -v' "$@"
 [ -n "${opt_F-}" ] || fail '-F is missing'
 [ -z "${opt_u-}${opt_c-}${opt_v-}" ] || one_of -wo -u -c -v
@@ -24,12 +28,12 @@ enough() {
 case $shape in
 u | c | v)
     records "$opt_a" > "$folder/a.bed"
-    awk -F'\t' -v OFS='\t' '{ print $1, $2, $3, NR, 0, $6, 0 }' "$folder/a.bed" |
+    from "$folder/a.bed" awk -F'\t' -v OFS='\t' '{ print $1, $2, $3, NR, 0, $6, 0 }' |
         bt intersect -a - -b "$opt_b" "${rule[@]}" -wo | enough | cut -f 4 > "$folder/hits"
-    awk -v shape=$shape -v numbers="$folder/hits" '
-        BEGIN { while ((getline number < numbers) > 0) hits[number]++ }
+    from "$folder/a.bed" awk -v shape=$shape '
+        BEGIN { while ((getline number < (ENVIRON["folder"] "/hits")) > 0) hits[number]++ }
         shape == "c" { print $0 "\t" hits[NR] + 0; next }
-        (NR in hits) == (shape == "u")' "$folder/a.bed" ;;
+        (NR in hits) == (shape == "u")' ;;
 *)
     carry "$opt_a" | bt intersect -a - -b "$opt_b" "${rule[@]}" -wo | enough |
         case $shape in
@@ -43,3 +47,5 @@ u | c | v)
             tr '\001' '\t' ;;
         esac ;;
 esac
+exit
+}

@@ -1,8 +1,12 @@
 #!/bin/bash
+# shellcheck disable=SC2016,SC2154
+{
 # intersect-files.sh -a A -b B1 B2 .. -u | -v | -c | -C | -wa -wb [-names N1 N2 .. -- | -filenames] [-f F] [-s]: for
 # several files of -b. Without names each line has the file's number, as in bedtools. End the list of names by --.
-# shellcheck source=functions.sh source-path=SCRIPTDIR disable=SC2154
-. "${BASH_SOURCE%/*}/functions.sh"
+here=$(readlink -f -- "${BASH_SOURCE[0]}") || exit 2
+# shellcheck source=functions.sh source-path=SCRIPTDIR
+. "${here%/*}/functions.sh" || exit 2
+begin "$@" || exit 2
 names=() words=() is_name=''
 for word; do
     case $word in
@@ -16,7 +20,7 @@ if [ -z "${opt_wa-}" ] || [ -z "${opt_wb-}" ]; then one_of -u -v -c -C; fi
 rule=(${opt_f:+-f "$opt_f"} ${opt_s:+-s})
 for name in u v c; do
     option=opt_$name
-    [ -z "${!option-}" ] || { cat "${files[@]}" | in_order | bt intersect -a "$opt_a" -b - "-$name" "${rule[@]}"; exit; }
+    [ -z "${!option-}" ] || { cat -- "${files[@]}" | in_order | bt intersect -a "$opt_a" -b - "-$name" "${rule[@]}"; exit; }
 done
 twice "$opt_a"
 shape=(-wa -wb)
@@ -26,6 +30,9 @@ for file in "${files[@]}"; do
     name=${names[number]:-$((number + 1))}
     [ -z "${opt_filenames-}" ] || name=$file
     number=$((number + 1))
+    case $name in *[$'\n\001']*) fail "a name with a line feed stands in no line: $name" ;; esac
     carry "$opt_a" | bt intersect -a - -b "$file" "${shape[@]}" "${rule[@]}" |
-        awk -F'\t' -v OFS='\t' -v name="$name" '{ $7 = $7 "\001" name; print }'
+        name=$name awk -F'\t' -v OFS='\t' '{ $7 = $7 "\001" ENVIRON["name"]; print }'
 done | sort -s -t "$TAB" -k 4,4n | lines
+exit
+}

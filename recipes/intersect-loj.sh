@@ -1,16 +1,20 @@
 #!/bin/bash
+# shellcheck disable=SC2016,SC2154
+{
 # intersect-loj.sh -a A -b B -loj | -wao [-f F] [-r] [-s]: also the records without a hit. Columns of a missing record of B
 # go by the number of its columns; twelve are taken for BED12. Give -plain if yours aren't that.
-# shellcheck source=functions.sh source-path=SCRIPTDIR disable=SC2154
-. "${BASH_SOURCE%/*}/functions.sh"
+here=$(readlink -f -- "${BASH_SOURCE[0]}") || exit 2
+# shellcheck source=functions.sh source-path=SCRIPTDIR
+. "${here%/*}/functions.sh" || exit 2
+begin "$@" || exit 2
 read_words '-a: -b: -f: -r -s -sorted -loj -wao -plain' "$@"
 one_of -loj -wao
 work
 records "$opt_b" > "$folder/b.bed"
-none=$(awk -F'\t' -v plain="${opt_plain-}" 'NR == 1 { n = NF } NF != n { n = 0; exit }
+none=$(from "$folder/b.bed" awk -F'\t' -v plain="${opt_plain-}" 'NR == 1 { n = NF } NF != n { n = 0; exit }
     END { if (!n) exit 1
         printf ".\t-1\t-1"; for (i = 4; i <= n; i++) printf "\t%s",
-            i == 5 && (n < 7 || n == 12 && !plain) ? -1 : "." }' "$folder/b.bed") ||
+            i == 5 && (n < 7 || n == 12 && !plain) ? -1 : "." }') ||
     fail 'the records of -b have different numbers of columns, or there are none'
 carry "$opt_a" > "$folder/a.bed"
 rule=(${opt_f:+-f "$opt_f"} ${opt_r:+-r} ${opt_s:+-s})
@@ -20,3 +24,5 @@ shape=(-wo) end="$TAB"0
   bt intersect -a "$folder/a.bed" -b "$folder/b.bed" -v "${rule[@]}" |
       awk -v none="$none$end" '{ print $0 "\t" none }'
 } | sort -s -t "$TAB" -k 4,4n | lines
+exit
+}

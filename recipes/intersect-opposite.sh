@@ -1,7 +1,11 @@
 #!/bin/bash
+# shellcheck disable=SC2016,SC2154
+{
 # intersect-opposite.sh -a A -b B [-f F]: for intersect -S -wo, which writes the lines of B.
-# shellcheck source=functions.sh source-path=SCRIPTDIR disable=SC2154
-. "${BASH_SOURCE%/*}/functions.sh"
+here=$(readlink -f -- "${BASH_SOURCE[0]}") || exit 2
+# shellcheck source=functions.sh source-path=SCRIPTDIR
+. "${here%/*}/functions.sh" || exit 2
+begin "$@" || exit 2
 read_words '-a: -b: -f:' "$@"
 carry "$opt_b" | swap_strands - |
     bt intersect -s -wa -wb ${opt_f:+-f "$opt_f"} -a "$opt_a" -b - |
@@ -10,3 +14,5 @@ carry "$opt_b" | swap_strands - |
         high = $3 < $(NF - 4) ? $3 : $(NF - 4)
         line = $NF; NF -= 7; print $0, line, high - low }' |
     tr '\001' '\t'
+exit
+}

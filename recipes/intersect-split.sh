@@ -1,7 +1,11 @@
 #!/bin/bash
+# shellcheck disable=SC2016,SC2154
+{
 # intersect-split.sh -a A -b B -u | -v: for -split: a record is hit if one of its BED12 blocks is.
-# shellcheck source=functions.sh source-path=SCRIPTDIR disable=SC2154
-. "${BASH_SOURCE%/*}/functions.sh"
+here=$(readlink -f -- "${BASH_SOURCE[0]}") || exit 2
+# shellcheck source=functions.sh source-path=SCRIPTDIR
+. "${here%/*}/functions.sh" || exit 2
+begin "$@" || exit 2
 read_words '-a: -b: -sorted -u -v' "$@"
 one_of -u -v
 work
@@ -16,6 +20,8 @@ blocks() {
 records "$opt_a" > "$folder/a.bed"
 records "$opt_b" | blocks > "$folder/b.blocks"
 blocks < "$folder/a.bed" | bt intersect -u -a - -b "$folder/b.blocks" | cut -f 4 > "$folder/hits"
-awk -v is_v="${opt_v:-0}" -v hits="$folder/hits" '
-    BEGIN { while ((getline number < hits) > 0) hit[number] }
-    (NR in hit) != is_v' "$folder/a.bed"
+from "$folder/a.bed" awk -v is_v="${opt_v:-0}" '
+    BEGIN { while ((getline number < (ENVIRON["folder"] "/hits")) > 0) hit[number] }
+    (NR in hit) != is_v'
+exit
+}

@@ -1,13 +1,17 @@
 #!/bin/bash
+# shellcheck disable=SC2016,SC2154
+{
 # merge-c.sh -i FILE -c N,N.. -o OPERATION,.. [-d N] [-delim TEXT] [-prec N]: columns of merged features. Operations: count,
 # sum, mean, min, max, collapse, distinct, count_distinct; distinct values come in the order of their bytes.
-# shellcheck source=functions.sh source-path=SCRIPTDIR disable=SC2154
-. "${BASH_SOURCE%/*}/functions.sh"
+here=$(readlink -f -- "${BASH_SOURCE[0]}") || exit 2
+# shellcheck source=functions.sh source-path=SCRIPTDIR
+. "${here%/*}/functions.sh" || exit 2
+begin "$@" || exit 2
 read_words '-i: -c: -o: -d: -delim: -prec:' "$@"
 twice "$opt_i"
 bt merge -i "$opt_i" ${opt_d:+-d "$opt_d"} | bt intersect -a - -b "$opt_i" -wa -wb |
-    awk -F'\t' -v columns="$opt_c" -v operations="$opt_o" -v delim="${opt_delim:-,}" -v prec="${opt_prec:-10}" '
-    BEGIN { wanted = split(columns, column, ","); given = split(operations, operation, ",")
+    delim=${opt_delim:-,} awk -F'\t' -v columns="$opt_c" -v operations="$opt_o" -v prec="${opt_prec:-10}" '
+    BEGIN { delim = ENVIRON["delim"]; wanted = split(columns, column, ","); given = split(operations, operation, ",")
         for (i = given + 1; i <= wanted; i++) operation[i] = operation[given]
         for (i = wanted + 1; i <= given; i++) column[i] = column[wanted]
         if (given > wanted) wanted = given
@@ -23,16 +27,16 @@ bt merge -i "$opt_i" ${opt_d:+-d "$opt_d"} | bt intersect -a - -b "$opt_i" -wa -
         if (operation[i] == "min") return number(least[i])
         if (operation[i] == "max") return number(most[i])
         if (operation[i] == "count_distinct") return kinds[i]
-        return text[i] }
+        return operation[i] == "distinct" ? joined(i) : text[i] }
     # A value that is new is put where its bytes belong.
-    function put(i, x,  at, parts, count, made) {
+    function put(i, x,  at) {
         if ((i, x) in seen) return
-        seen[i, x]; kinds[i]++
-        count = kinds[i] > 1 ? split(text[i], parts, delim) : 0
-        for (at = 1; at <= count && parts[at] "" < x ""; at++) made = made (at > 1 ? delim : "") parts[at]
-        made = made (made != "" || at > 1 ? delim : "") x
-        for (; at <= count; at++) made = made delim parts[at]
-        text[i] = made }
+        seen[i, x]
+        for (at = kinds[i]++; at > 0 && kept[i, at] "" > x ""; at--) kept[i, at + 1] = kept[i, at]
+        kept[i, at + 1] = x }
+    function joined(i,  at, made) {
+        for (at = 1; at <= kinds[i]; at++) made = made (at > 1 ? delim : "") kept[i, at]
+        return made }
     function line(  i, out) { if (!n) return
         out = run; for (i = 1; i <= wanted; i++) out = out "\t" value(i); print out }
     function begin(  i) { n = 0; split("", seen); for (i = 1; i <= wanted; i++) { sum[i] = kinds[i] = 0; text[i] = "" } }
@@ -46,3 +50,5 @@ bt merge -i "$opt_i" ${opt_d:+-d "$opt_d"} | bt intersect -a - -b "$opt_i" -wa -
         else if (operation[i] ~ /distinct/) put(i, x)
         else if (operation[i] == "collapse") text[i] = text[i] (n > 1 ? delim : "") x } }
     END { if (!failed) line() }'
+exit
+}

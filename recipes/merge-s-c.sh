@@ -1,7 +1,11 @@
 #!/bin/bash
+# shellcheck disable=SC2016,SC2154
+{
 # merge-s-c.sh -i FILE [-d N]: for merge -s -c 6,4 -o distinct,count: the strand, and how many features a run has.
-# shellcheck source=functions.sh source-path=SCRIPTDIR disable=SC2154
-. "${BASH_SOURCE%/*}/functions.sh"
+here=$(readlink -f -- "${BASH_SOURCE[0]}") || exit 2
+# shellcheck source=functions.sh source-path=SCRIPTDIR
+. "${here%/*}/functions.sh" || exit 2
+begin "$@" || exit 2
 read_words '-i: -d:' "$@"
 work
 carry "$opt_i" | cut -f 1-6 > "$folder/numbered.bed"
@@ -13,3 +17,5 @@ for strand in + -; do
             run = $1 FS $2; line = $10 FS $1 FS $2 FS $3 FS $6; n = 1 }
             END { if (n) print line FS n }'
 done | sort -n | cut -f 2-
+exit
+}

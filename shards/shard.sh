@@ -1,28 +1,36 @@
 #!/bin/bash
+{ # bash reads all of it before it runs any, so that a script that was cut ends with an error.
 # shard.sh NAME WORD..: dunekettle-bedtools WORD.. over one shard, whose part of each input is put into the folder shards/NAME.
 set -euo pipefail
+fail() { echo "shard.sh: $1" >&2; exit 1; }
 export NAME=$1
+case /$NAME/ in *//* | */./* | */../*) fail "no folder can be named so: $NAME" ;; esac
+case " ${*:3} " in *\ -[ia]\ * | *\ -fi\ *) ;; *) fail 'no input is named' ;; esac
 mkdir -p "shards/$NAME"
-case " ${*:3} " in *\ -[ia]\ * | *\ -fi\ *) ;; *) echo "shard.sh: no input is named" >&2; exit 1 ;; esac
 declare -A file_of
 before=
 for word in "${@:2}"; do
     part=${word##*/}
     part=shards/$NAME/${part%.gz}
-    [ "${file_of[$part]:=$word}" = "$word" ] || { echo "shard.sh: two inputs are named ${part##*/}" >&2; exit 1; }
+    [ "${file_of[$part]:=$word}" = "$word" ] || fail "two inputs are named ${part##*/}"
+    # No tool takes this for an option or an address.
+    case $word in /*) path=$word ;; *) path=./$word ;; esac
     case "$before $word" in
-    -[iab]\ *.bed.gz | -bed\ *.bed.gz) tabix "$word" "{$NAME}" > "$part" ;;
+    -[iab]\ *.bed.gz | -bed\ *.bed.gz) tabix "$path" "{$NAME}" > "$part" ;;
     -g\ *) case $2 in
-        complement | genomecov) awk -F'\t' '$1 "" == ENVIRON["NAME"]' "$word" > "$part" ;;
+        complement | genomecov) awk -F'\t' '$1 "" == ENVIRON["NAME"]' < "$path" > "$part" ;;
         *) part=$word ;;
         esac ;;
-    -fi\ *.fa) bytes=$(awk -F'\t' '$1 "" == ENVIRON["NAME"] { print "skip=" $2, "count=" $3 }' "$word.index")
-        dd if="$word" of="$part" bs=1M iflag=skip_bytes,count_bytes status=none count=0 $bytes ;;
-    -i\ *.sam) split -n "l/$NAME" "$word" > "$part" ;;
-    -[iab]\ * | -bed\ * | -fi\ * | -fo\ *) echo "shard.sh: $before $word: no part can be made of it" >&2; exit 1 ;;
+    -fi\ *.fa) bytes=$(awk -F'\t' '$1 "" == ENVIRON["NAME"] { print "skip=" $2, "count=" $3 }' < "$path.index")
+        # shellcheck disable=SC2086 # two words, or none
+        dd if="$path" of="$part" bs=1M iflag=skip_bytes,count_bytes status=none count=0 $bytes ;;
+    -i\ *.sam) split -n "l/$NAME" "$path" > "$part" ;;
+    -[iab]\ * | -bed\ * | -fi\ * | -fo\ *) fail "$before $word: no part can be made of it" ;;
     *) part=$word ;;
     esac
     words+=("$part")
     before=$word
 done
 "${BEDTOOLS:-dunekettle-bedtools}" "${words[@]}"
+exit
+}

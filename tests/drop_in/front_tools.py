@@ -34,8 +34,7 @@ def original():
 
 def install(prefix):
     """Installs the program and its front into a folder, as `make install` does, without the pages."""
-    subprocess.run([TOP / "packaging" / "install.sh", prefix, prefix, "dunekettle-bedtools"], check=True)
-    shutil.copy(PROGRAM, prefix / "bin" / "dunekettle-bedtools")
+    subprocess.run([TOP / "packaging" / "install.sh", prefix, prefix, "dunekettle-bedtools", PROGRAM], check=True)
     return prefix
 
 

@@ -1,7 +1,10 @@
 #!/bin/bash
 # Tries what `make install`, `make dist` and `make deb` make, in a folder of its own: the program, its front and the drop-in
 # run from there, the manual pages and completions have its name, each link of the pages leads somewhere, the checksums are
-# right, and the Debian package installs beside another bedtools and goes without a trace. What needs a shell or a program that isn't here is passed over with a word.
+# right, and the Debian package installs beside another bedtools and goes without a trace. One commit gives one package,
+# whatever the umask, the file system and the variables are; installing beside calls breaks none; and the installed scripts
+# are tried by tests/recipes/safe.py, shellcheck and lintian. What needs a shell or a program that isn't here is passed over
+# with a word.
 #
 #     tests/packages/check.sh
 set -euo pipefail
@@ -74,7 +77,7 @@ fi
 expect_front "$folder/there" "the installation"
 expect "the docs of an installation" "yes" "$([ -f "$share/doc/trial-tools/docs/ERRORS.md" ] && echo yes)"
 expect "links of its pages that lead nowhere" "" "$(lost_links "$share/doc/trial-tools")"
-expect "a recipe" "$(printf 'chr1\t2\t6\nchr1\t4\t9')" "$(PATH=$folder/there/bin:$PATH "$share/doc/trial-tools/recipes/intersect-F.sh" -a "$folder/sorted.bed" -b "$folder/sorted.bed" -F 0.5 -u)"
+expect "a recipe" "$(printf 'chr1\t2\t6\nchr1\t4\t9')" "$(PATH=$folder/there/bin:$PATH "$share/dunekettle/recipes/intersect-F.sh" -a "$folder/sorted.bed" -b "$folder/sorted.bed" -F 0.5 -u)"
 expect "links of its pages" "yes" "$([ "$(grep -o '\](' -r "$share/doc/trial-tools" --include='*.md' | wc -l)" -gt 100 ] && echo yes)"
 if has man; then
     page=$(MANWIDTH=80 man -l "$share/man/man1/trial-tools.1" | col -b)
@@ -103,8 +106,64 @@ if has zsh; then
     expect "options in zsh" "yes" "$(grep -q -- '-wo .*number of bases' <<< "$shown" && echo yes)"
 fi
 
+# The scripts where they are installed: any name, any cut, and what shellcheck says.
+scripts=("$share"/dunekettle/recipes/*.sh "$share"/dunekettle/shards/*.sh)
+expect "installed recipes" "$(find recipes shards -type f | wc -l)" "$(find "$share/dunekettle" -type f | wc -l)"
+expect "a program of another name in a script" "" "$(grep -l dunekettle-bedtools -r "$share/dunekettle" || true)"
+ln -s trial-tools "$folder/there/bin/dunekettle-bedtools"
+for kind in recipes shards; do
+    expect "names and calls of installed $kind" "0" "$(PATH=$folder/there/bin:$PATH tests/recipes/safe.py "$kind" "$share/dunekettle/$kind" > "$folder/said.txt" 2>&1; echo $?)"
+    tail -n 3 "$folder/said.txt"
+done
+rm "$folder/there/bin/dunekettle-bedtools"
+mapfile -t cut < <(printf '%s\n' "${scripts[@]}" | grep -v functions.sh)
+expect "installed scripts that are cut" "0" "$(tests/recipes/safe.py cut "${cut[@]}" "$folder/there/bin/dunekettle" packaging/install.sh packaging/uninstall.sh packaging/dist.sh packaging/deb.sh > "$folder/said.txt" 2>&1; echo $?)"
+tail -n 3 "$folder/said.txt"
+if has shellcheck; then
+    expect "shellcheck of installed scripts" "" "$(shellcheck -x -P SCRIPTDIR -P "$folder/there/lib/dunekettle" "$folder/there/bin/dunekettle" "$folder"/there/lib/dunekettle/*.sh "${scripts[@]}" || true)"
+fi
+mv "$share/doc" "$folder/doc"
+expect "a recipe without the folder of pages" "$(records)" "$(PATH=$folder/there/bin:$PATH "$share/dunekettle/recipes/intersect-F.sh" -a "$folder/sorted.bed" -b "$folder/sorted.bed" -F 0.5 -u)"
+mv "$folder/doc" "$share/doc"
+
+# Calls while it is installed again and again: each has the whole output.
+while [ ! -e "$folder/enough" ]; do make --silent install DESTDIR= PREFIX="$folder/there" NAME=trial-tools; done &
+installer=$!
+calls=0 broken=0
+while [ "$calls" -lt 400 ]; do
+    calls=$((calls + 1))
+    for call in "$folder/there/bin/trial-tools" "$folder/there/bin/dunekettle" "$folder/there/lib/dunekettle/bin/bedtools"; do
+        [ "$(DUNEKETTLE_SMALL=0 "$call" merge -i "$folder/sorted.bed" 2>&1)" = "chr1	2	9" ] || broken=$((broken + 1))
+    done
+    [ "$(PATH=$folder/there/bin:$PATH "$share/dunekettle/recipes/with-strand.sh" <(printf 'chr1\t2\t6\ta\t0\t+\n'))" = "chr1	2	6	a	0	+" ] || broken=$((broken + 1))
+done
+touch "$folder/enough"
+wait "$installer"
+expect "calls while it was installed, of $((4 * calls))" "0" "$broken"
+expect "what an installation leaves beside its files" "" "$(find "$folder/there" -name '*.new')"
+
 make --silent uninstall DESTDIR= PREFIX="$folder/there" NAME=trial-tools
 expect "what is left of an installation" "$folder/there" "$(find "$folder/there")"
+
+# A name comes from the command line alone, and no odd one is taken; all may read what root installs.
+for name in 'two words' 'a&b' "a'b" 'a"b' 'a|b' '-x' '..' 'a/b' "\$(touch $folder/hit)" dunekettle dunekettle-merge; do
+    expect "NAME=$name" "2 no" "$(make --silent install DESTDIR= PREFIX="$folder/named" "NAME=${name//\$/\$\$}" > "$folder/said.txt" 2>&1; echo $?) $([ -e "$folder/named" ] || echo no)"
+done
+expect "what a name ran" "no" "$([ -e "$folder/hit" ] || echo no)"
+(umask 077; NAME='from the environment' make --silent install DESTDIR= PREFIX="$folder/named & |2")
+expect "the name of a program installed with another NAME in the environment" "dunekettle dunekettle-bedtools" "$(cd "$folder/named & |2/bin" && echo *)"
+expect "what others can't read" "" "$(find "$folder/named & |2" \( -type d ! -perm -5 -o -type f ! -perm -4 \) -print)"
+expect "a page's place" "yes" "$(grep -qF "named & |2/share/doc/" "$folder/named & |2/share/man/man1/dunekettle.1" && echo yes)"
+make --silent uninstall DESTDIR= PREFIX="$folder/named & |2"
+
+expect "licences and the SBOM" "0" "$(packaging/licences.py > "$folder/said.txt"; echo $?)"
+cat "$folder/said.txt"
+if has readelf; then
+    expect "hardening: any address, no table is written later, no stack is run" "DYN NOW RELRO RW" "$({
+        readelf -hW bin/bedtools | sed -n 's/.*Type: *\([A-Z]*\).*/\1/p'
+        readelf -dW bin/bedtools | grep -o 'BIND_NOW' | sed 's/BIND_//'
+        readelf -lW bin/bedtools | sed -n 's/.*GNU_\(RELRO\) .*/\1/p; s/.*GNU_STACK .* \(RWE*\) .*/\1/p'; } | sort | paste -s -d ' ')"
+fi
 
 make --silent dist > "$folder/said.txt"
 tarball=$(sed -n 's/^Made \([^,]*\),.*/\1/p' "$folder/said.txt")
@@ -116,9 +175,25 @@ expect "each file has one" "$(cd "$unpacked" && find . -type f | wc -l)" "$(($(w
 expect "the program in the tarball" "chr1	2	9" "$(records | "$unpacked/bin/dunekettle-bedtools" merge)"
 expect_front "$unpacked" "the tarball"
 expect "links of the tarball's pages that lead nowhere" "" "$(lost_links "$unpacked")"
+expect "licences in the tarball" "LICENSE copyright sbom.spdx.json" "$(cd "$unpacked/share/doc/dunekettle-bedtools" && echo LICENSE copyright* sbom*)"
 sum=$(cat "$tarball.sha256")
 make --silent dist > /dev/null
 expect "the same tarball once more" "$sum" "$(cat "$tarball.sha256")"
+
+# The same of a copy on another file system, by another owner, with another umask, and variables that choose a compressor.
+other=$(mktemp -d -p "$([ -w /dev/shm ] && echo /dev/shm || echo "$folder")")
+trap 'rm -rf "$folder" "$other"' EXIT
+cp -a . "$other/copy"
+[ "$(id -u)" != 0 ] || chown -R 65534 "$other"
+touch "$other/copy/bin/bedtools"
+elsewhere() {
+    (umask 077; cd "$other/copy" && GZIP=-1 XZ_DEFAULTS=-0 XZ_OPT=-0 TAR_OPTIONS=--format=pax DPKG_DEB_COMPRESSOR_TYPE=gzip DPKG_DEB_THREADS_MAX=3 \
+        LC_ALL=C.UTF-8 TZ=Asia/Tokyo make --silent "$@" > "$folder/said.txt" 2>&1)
+}
+elsewhere dist
+expect "the same tarball elsewhere" "$sum" "$(cat "$other/copy/$tarball.sha256")"
+SOURCE_DATE_EPOCH=86400 make --silent dist > /dev/null
+expect "the date of SOURCE_DATE_EPOCH" "1970-01-02" "$(tar --full-time --utc -tvzf "$tarball" | awk '{ print $4 }' | sort -u)"
 
 if has dpkg-deb; then
     make --silent deb > "$folder/said.txt"
@@ -134,6 +209,13 @@ if has dpkg-deb; then
     expect "links of the package's pages that lead nowhere" "" "$(lost_links "$root/usr")"
     expect "bedtools beside it" "other" "$(cat "$root/usr/bin/bedtools")"
     expect "its files are whole" "" "$(cd "$root" && md5sum --quiet -c var/lib/dpkg/info/dunekettle-bedtools.md5sums)"
+    expect "completions where zsh of Debian looks" "_dunekettle _dunekettle-bedtools" "$(cd "$root/usr/share/zsh/vendor-completions" && echo *)"
+    sum=$(sha256sum < "$package")
+    elsewhere deb
+    expect "the same package elsewhere" "$sum" "$(sha256sum < "$other/copy/$package")"
+    if has lintian; then
+        expect "errors and warnings of lintian" "" "$(lintian "$package" 2> /dev/null | grep '^[EW]:' || true)"
+    fi
     debian --purge dunekettle-bedtools
     expect "what is left of it" "$root/usr/bin/bedtools" "$(find "$root/usr" -type f)"
 fi

@@ -217,6 +217,14 @@ class BothPrograms(BesideOriginal):
                     self.counts["runs"] += 1
 
 
+class OddNames(unittest.TestCase):
+    def test_names_and_calls(self):
+        """What safe.py tries of these scripts."""
+        safe = Path(__file__).with_name("safe.py")
+        ran = subprocess.run([safe, "recipes", SCRIPTS], capture_output=True, text=True, check=False)
+        self.assertEqual(ran.returncode, 0, ran.stdout + ran.stderr)
+
+
 class Rows(unittest.TestCase):
     scripts = {path.name for path in SCRIPTS.glob("*.sh")} - {"functions.sh"}
 

@@ -1,0 +1,280 @@
+#!/usr/bin/env python3
+"""Tries names, cuts and links that may do harm on the scripts of an installation.
+
+    tests/recipes/safe.py recipes FOLDER      each script of recipes/, in this folder
+    tests/recipes/safe.py shards FOLDER       those of shards/
+    tests/recipes/safe.py cut FILE..          each script, cut behind each of its lines
+
+A recipe and a shard script has to write the same for a file of any name, as `a=b.bed`, which awk takes for an assignment,
+or `-x.bed`, and to run nothing that stands in a name. A chromosome whose name leads out of the folder of shards is refused
+before anything is made. A script that is cut, or doesn't find its functions, ends with an error and writes nothing.
+The program is what BEDTOOLS names, or bin/bedtools of this repository. Ends with 1 where something differs; what needs a
+tool that isn't here is passed over with a word.
+"""
+
+import os
+import re
+import shlex
+import shutil
+import subprocess
+import sys
+import tempfile
+from pathlib import Path
+
+TOP = Path(__file__).resolve().parents[2]
+# What a file's name begins with, and what a chromosome's name may be. Each that is run leaves a file named hit.
+NAMES = ("rep=1", "-x", "--help", "two words", "line\nfeed", " around ", "*", "[a-z]?", "$(touch hit)", "`touch hit`", ";touch hit", "|touch hit", "'quote'", '"quotes"',
+         "back\\tslash", "~", "#number", "%s", "{brace}", "{{x}}", "&", "!", "é", "$HOME", "a,b")
+OUTSIDE = (".", "..", "../..", "../../out", "a/..", "a/../..", "a/./b", "/a", "a/", "a//b")
+# The files that a case of recipes.tsv names.
+FILE = re.compile(r"(?<![\w./-])(?:[abc]\.bed(?:\.gz)?|chr1\.bed|genome\.txt|reads\.bam|mapped\.bam|genes\.gff|calls\.vcf)(?![\w.])")
+SIZES = {"chr1": 3000, "chr2": 2000}
+# Command lines whose inputs have parts by chromosome, and the files that index.sh is given for each.
+SHARDED = (("merge -i a.bed.gz", "a.bed"), ("intersect -a a.bed.gz -b b.bed.gz -g genome.txt -wo", "a.bed b.bed"), ("complement -i a.bed.gz -g genome.txt", "a.bed"),
+           ("maskfasta -fi s.fa -bed a.bed.gz", "a.bed s.fa"))
+
+
+class Count:
+    """Counts cases, and shows those that differ."""
+
+    def __init__(self):
+        self.cases = self.wrong = 0
+
+    def expect(self, name, wanted, found):
+        """One case."""
+        self.cases += 1
+        if wanted != found:
+            self.wrong += 1
+            print(f"{name}\n  wanted {wanted!r:.500}\n  found  {found!r:.500}")
+
+
+def run(words, place, path=(), **more):
+    """Runs words, and gives output, status and what was said."""
+    env = {**os.environ, "PATH": os.pathsep.join([*map(str, path), os.environ["PATH"]]), **more}
+    done = subprocess.run([*map(str, words)], cwd=place, env=env, stdin=subprocess.DEVNULL, stdout=subprocess.PIPE, stderr=subprocess.PIPE, check=False)
+    return done.stdout, done.returncode, done.stderr.decode(errors="replace")
+
+
+def features(count, name, step):
+    """BED records of six columns on each chromosome."""
+    return "".join(f"{chrom}\t{step * n}\t{step * n + 40}\t{name}{n}\t0\t{'+-'[n % 2]}\n" for chrom in SIZES for n in range(count))
+
+
+def write_files(folder):
+    """Writes each file that a case names, and gives their names."""
+    texts = {"a.bed": features(30, "a", 50), "b.bed": features(20, "b", 70), "c.bed": features(10, "c", 90), "chr1.bed": "".join(features(30, "a", 50).splitlines(True)[:30]),
+             "genome.txt": "".join(f"{chrom}\t{size}\n" for chrom, size in SIZES.items()),
+             "genes.gff": "".join(f"{chrom}\tx\texon\t{90 * n + 1}\t{90 * n + 50}\t.\t+\t.\tID={n}\n" for chrom in SIZES for n in range(9)),
+             "calls.vcf": "".join(f"{chrom}\t{90 * n + 1}\t.\tA\tC\t.\tPASS\t.\n" for chrom in SIZES for n in range(9))}
+    for name, text in texts.items():
+        Path(folder, name).write_text(text, encoding="utf-8")
+    for name in "abc":
+        subprocess.run(["gzip", "-k", "-n", f"{name}.bed"], cwd=folder, check=True)
+    if shutil.which("samtools"):
+        reads = [f"@SQ\tSN:{chrom}\tLN:{size}\n" for chrom, size in SIZES.items()]
+        reads += [f"r{n}\t{16 * (n % 2)}\t{chrom}\t{60 * n + 1}\t9\t20M5N20M\t*\t0\t0\t{'A' * 40}\t*\tNM:i:{n}\n" for chrom in SIZES for n in range(30)]
+        for name in ("reads.bam", "mapped.bam"):
+            subprocess.run(["samtools", "view", "-b", "-o", name, "-"], cwd=folder, input="".join(reads).encode(), check=True)
+    return [path.name for path in Path(folder).iterdir()]
+
+
+def cases_of(recipes):
+    """For each script the first of its cases, and each case with GENOME."""
+    seen, has_samtools = set(), shutil.which("samtools")
+    for line in (TOP / "tests" / "recipes" / "recipes.tsv").read_text(encoding="utf-8").splitlines()[1:]:
+        words = line.split("\t")[1]
+        names = set(re.findall(r"[\w-]+\.sh", words))
+        if not names or "bam" in words and not has_samtools:
+            continue
+        if names - seen or "GENOME=" in words or "-filenames" in words:
+            seen |= names
+            yield words
+    for script in sorted(recipes.glob("*.sh")):
+        if script.name not in seen | {"functions.sh"} and has_samtools:
+            raise ValueError(f"no case of {script.name} in recipes.tsv")
+
+
+def listed(folder):
+    """The names of a folder's files."""
+    return sorted(path.name for path in Path(folder).iterdir())
+
+
+def try_names_of_recipes(recipes, top, count):
+    """Each recipe writes the same of files with other names, and makes none."""
+    folder = Path(top, "recipes")
+    folder.mkdir()
+    files = write_files(folder)
+    for prefix in NAMES:
+        for name in files:
+            shutil.copy(folder / name, folder / f"{prefix}.{name}")
+    for words in cases_of(recipes):
+        before = listed(folder)
+        wanted = run(["bash", "-o", "pipefail", "-c", words], folder, [recipes])[:2]
+        count.expect(f"{words} writes something, and ends with 0", (True, 0), (wanted[0] != b"", wanted[1]))
+        for prefix in NAMES:
+            named = FILE.sub(lambda found, prefix=prefix: shlex.quote(f"{prefix}.{found[0]}"), words.replace('^browser" ', '^browser" -- '))
+            output, status, said = run(["bash", "-o", "pipefail", "-c", named], folder, [recipes])
+            # A line has no place for such a name, and a further word of -b that begins so is an option.
+            if "-filenames" in words and "\n" in prefix or "b.bed c.bed" in words and prefix.startswith("-"):
+                count.expect(f"{named}", (b"", 2), (output, status))
+                continue
+            output = re.sub(re.escape(prefix.encode()) + rb"\.(?=[abc]\.bed)", b"", output) if "-filenames" in words else output
+            count.expect(f"{named}\n  {said.strip()}", wanted, (output, status))
+            if "hit" in (after := listed(folder)) or after != before:
+                count.expect(f"what {named} leaves", before, after)
+                (folder / "hit").unlink(missing_ok=True)
+
+
+def try_calls_of_recipes(recipes, top, count):
+    """A recipe finds its functions by its own folder, whoever calls it and through a link, and fails without them."""
+    folder, alone, links = (Path(top, name) for name in ("calls", "alone", "links"))
+    for made in (folder, alone, links):
+        made.mkdir()
+    write_files(folder)
+    # What a script would write into a folder that it hasn't made goes into `alone`, and not into that of the system.
+    trap = "touch hit; exit 0\n"
+    Path(folder, "functions.sh").write_text(trap, encoding="utf-8")
+    Path(links, "functions.sh").write_text(trap, encoding="utf-8")
+    for script in sorted(recipes.glob("*.sh")):
+        if script.name == "functions.sh":
+            continue
+        shutil.copy(script, alone)
+        (links / script.name).symlink_to(script)
+        first = script.read_text(encoding="utf-8").splitlines()[3][2:] + "\n"
+        for words, place, path in (([script], folder, []), (["bash", script.name], folder, [recipes]), (["bash", script.name], recipes, []), ([script.name], folder, [recipes]),
+                                   ([links / script.name], folder, []), ([script.name], folder, [links]), ([f"../links/{script.name}"], folder, [])):
+            _, status, said = run(words, place, path, folder=str(alone))
+            count.expect(f"{' '.join(map(str, words))}, in {place.name}", (2, True), (status, said.startswith(first)))
+        for words, place in (([alone / script.name], folder), (["bash", script.name], alone), ([f"./{script.name}"], alone)):
+            before = listed(alone)
+            output, status, _ = run([*words, "-i", "a.bed", "-a", "a.bed", "-b", "b.bed", "-g", "genome.txt"], place, folder=str(alone))
+            count.expect(f"{' '.join(map(str, words))} without its functions", (b"", 2, before), (output, status, listed(alone)))
+    count.expect("what was run or left beside them", (False, ["functions.sh"]), ((folder / "hit").exists(), [name for name in listed(links) if name not in listed(alone)]))
+    # Functions that were cut, which no script takes.
+    text = (recipes / "functions.sh").read_text(encoding="utf-8").splitlines(True)
+    for number in range(len(text)):
+        (alone / "functions.sh").write_text("".join(text[:number]), encoding="utf-8")
+        output, status, _ = run([alone / "header.sh", "merge", "-i", "a.bed"], folder)
+        count.expect(f"functions.sh, cut behind line {number}", (b"", 2), (output, status))
+
+
+def try_cuts(scripts, top, count):
+    """A script that was cut behind any line of its group ends with an error, and writes nothing."""
+    folder = Path(top, "cuts")
+    folder.mkdir()
+    write_files(folder)
+    for script in scripts:
+        lines = script.read_text(encoding="utf-8").splitlines(True)
+        begun = next(number for number, line in enumerate(lines, 1) if line.startswith("{"))
+        count.expect(f"the group of {script.name} begins late", True, begun <= 3)
+        for number in range(begun, len(lines)):
+            made = folder / script.name
+            made.write_text("".join(lines[:number]), encoding="utf-8")
+            made.chmod(0o755)
+            output, status, said = run([made, "merge", "-i", "a.bed"], folder)
+            count.expect(f"{script.name}, cut behind line {number}", (b"", True, True), (output, status != 0, re.search("unexpected|[Uu]nterminated", said) is not None))
+
+
+def try_files_of_shards(shards, top, count):
+    """The shard scripts do the same with files of other names."""
+    folder = Path(top, "files")
+    folder.mkdir()
+    files = {name: Path(top, "plain", name) for name in ("a.bed", "b.bed", "genome.txt", "s.fa", "reads.sam")}
+    for prefix in NAMES:
+        for name, path in files.items():
+            shutil.copy(path, folder / f"{prefix}.{name}")
+        named = lambda words, prefix=prefix: [f"{prefix}.{word}" if re.fullmatch(r"[\w.]+\.(bed|fa|txt|sam|gz|index)", word) else word for word in words.split()]  # noqa: E731
+        for words, indexed in SHARDED:
+            done = run([shards / "index.sh", *named(indexed)], folder)
+            count.expect(f"index.sh {named(indexed)}", (b"", 0, ""), done)
+            genome = "s.fa.index" if "s.fa" in words else "genome.txt"
+            output, status, said = run([shards / "names.sh", *named(f"{genome} a.bed.gz")], folder)
+            count.expect(f"names.sh {named(genome)}: {said}", ("".join(f"{name}\n" for name in SIZES).encode(), 0), (output, status))
+            for name in SIZES:
+                wanted = run([shards / "shard.sh", name, *words.split()], Path(top, "plain"))
+                count.expect(f"shard.sh {name} {words} writes something", (True, 0), (wanted[0] != b"", wanted[1]))
+                found = run([shards / "shard.sh", name, *named(words)], folder)
+                count.expect(f"shard.sh {name} {named(words)}", wanted, found)
+        wanted = run([shards / "shard.sh", "1/2", "bamtobed", "-i", "reads.sam"], Path(top, "plain"))
+        count.expect(f"shard.sh 1/2 bamtobed of {prefix}", wanted, run([shards / "shard.sh", "1/2", *named("bamtobed -i reads.sam")], folder))
+    count.expect("what was run", False, any("hit" in name and "touch" not in name for name in listed(folder)))
+
+
+def try_chromosomes(shards, top, count):
+    """The shard scripts and the Snakefile with chromosomes of other names: refused if they lead elsewhere."""
+    for place in OUTSIDE:
+        folder = Path(top, "outside", "in", "it")
+        shutil.rmtree(Path(top, "outside"), ignore_errors=True)
+        folder.mkdir(parents=True)
+        text = f"{place}\t1\t5\te\nchr1\t2\t6\n"
+        (folder / "a.bed").write_text(text, encoding="utf-8")
+        (folder / "g.txt").write_text(f"chr1\t90\n{place}\t90\n", encoding="utf-8")
+        (folder / "s.fa").write_text(f">chr1\nACGT\n>{place}\nACGT\n", encoding="utf-8")
+        shutil.copy(Path(top, "plain", "a.bed.gz"), folder / "whole.bed.gz")
+        shutil.copy(Path(top, "plain", "a.bed.gz.tbi"), folder / "whole.bed.gz.tbi")
+        before = sorted(Path(top, "outside").rglob("*"))
+        for words in (["index.sh", "a.bed"], ["index.sh", "s.fa"], ["names.sh", "g.txt"], ["shard.sh", place, "merge", "-i", "whole.bed.gz"]):
+            output, status, said = run([shards / words[0], *words[1:]], folder)
+            count.expect(f"{words} with {place}: {said}", (b"", 1, True), (output, status, "no folder can be named so" in said))
+        count.expect(f"what is left of {place}", (before, text), (sorted(Path(top, "outside").rglob("*")), (folder / "a.bed").read_text(encoding="utf-8")))
+    odd = sorted({name for name in NAMES if "\n" not in name and not name.startswith("#")} | {"a/b", "chr1"}, key=str.encode)
+    folder = Path(top, "odd")
+    shutil.copytree(shards, folder)
+    (folder / "a.bed").write_text("".join(f"{name}\t{n}\t{n + 5}\n" for name in odd for n in (1, 3, 20)), encoding="utf-8")
+    (folder / "genome.txt").write_text("".join(f"{name}\t90\n" for name in odd), encoding="utf-8")
+    for words in ("merge -i a.bed", "complement -i a.bed -g genome.txt"):
+        wanted = run(["dunekettle-bedtools", *words.split()], folder)[0]
+        run(["./index.sh", "a.bed"], folder)
+        names = run(["./names.sh", "genome.txt", "a.bed.gz"], folder)[0].decode().splitlines()
+        count.expect("the names of chromosomes", odd, names)
+        found = b"".join(run(["./shard.sh", name, *words.replace(".bed", ".bed.gz").split()], folder)[0] for name in names)
+        count.expect(f"{words} by shards of odd names", wanted, found)
+        if shutil.which("snakemake"):
+            shutil.rmtree(folder / "shards")
+            done = run(["snakemake", "--cores", "2", "--quiet", "--config", f"command={words}", "output=made.bed"], folder)
+            made = folder / "made.bed"
+            count.expect(f"{words} by Snakemake with odd names: {done[2][-500:]}", (0, wanted), (done[1], made.read_bytes() if made.exists() else None))
+            made.unlink(missing_ok=True)
+        else:
+            print("no snakemake: passed over")
+    count.expect("what was run", False, (folder / "hit").exists())
+
+
+def try_shards(shards, top, count):
+    """The scripts of shards: their names, and what they are cut to."""
+    if not shutil.which("tabix") or not shutil.which("bgzip"):
+        print("no tabix and bgzip: shards were passed over")
+        return
+    folder = Path(top, "plain")
+    folder.mkdir()
+    write_files(folder)
+    (folder / "s.fa").write_text("".join(f">{name}\n{'ACGT' * (size // 4)}\n" for name, size in SIZES.items()), encoding="utf-8")
+    (folder / "reads.sam").write_text("".join(f"r{n}\t0\tchr1\t{n + 1}\t9\t4M\t*\t0\t0\tACGT\t*\n" for n in range(20)), encoding="utf-8")
+    count.expect("index.sh", (b"", 0, ""), run([shards / "index.sh", "a.bed", "b.bed", "s.fa"], folder))
+    try_files_of_shards(shards, top, count)
+    try_chromosomes(shards, top, count)
+
+
+def main():
+    what, *places = sys.argv[1:]
+    count = Count()
+    places = [Path(place).resolve() for place in places]
+    with tempfile.TemporaryDirectory() as top:
+        Path(top, "bin").mkdir()
+        Path(top, "bin", "dunekettle-bedtools").symlink_to(Path(os.environ.pop("BEDTOOLS", TOP / "bin" / "bedtools")).resolve())
+        os.environ["PATH"] = os.pathsep.join([f"{top}/bin", os.environ["PATH"]])
+        if what == "recipes":
+            try_names_of_recipes(places[0], top, count)
+            try_calls_of_recipes(places[0], top, count)
+        elif what == "shards":
+            try_shards(places[0], top, count)
+        elif what == "cut":
+            try_cuts(places, top, count)
+        else:
+            raise SystemExit(__doc__)
+    print(f"{what}: {count.cases} cases of names, calls and cuts, {count.wrong} of them differ")
+    return 1 if count.wrong else 0
+
+
+if __name__ == "__main__":
+    sys.exit(main())
