@@ -1,3 +1,4 @@
+# SPDX-License-Identifier: MIT
 # make builds bin/bedtools, make example runs it, make test is the gate, make mutants tries further wrong bodies, and
 # make definitions wrong definitions.
 # make check-docs checks the docs, make check-program the program at its edges, make check-speed its instructions,
@@ -45,12 +46,20 @@ endef
 
 # The run builds what it runs, and merges nothing.
 $(PROGRAM): $(SOURCES)
+	$(kit)
 	@mkdir -p $(@D)
 	@echo "Proving what changed and building $@; the prover's output goes to $(LOG)."
 	@cd crates/bedtools && rt run $(if $(CPU),--cpu $(CPU)) -- merge -i /dev/null -g /dev/null > ../../$(LOG) 2>&1 || \
 	{ tail -n 20 ../../$(LOG); echo "Not built: see $(LOG)."; exit 1; }
 	@cp crates/bedtools/out/bedtools $@
 	$(finish)
+
+# What proves and builds isn't a part of this repository.
+define kit
+@command -v rt > /dev/null || { \
+	echo 'No rt on PATH: this needs the Rattle kit (rattle-kit-13f: prover, compiler, libraries), which is not a part of this repository.'; \
+	echo 'Ask for it whoever gave you this, and put its folder bin on PATH: export PATH=/where/it/is/bin:$$PATH'; exit 1; }
+endef
 
 # Takes the program that `rt ci` built.
 built:
@@ -61,12 +70,14 @@ example: $(PROGRAM)
 	@examples/run.sh $(PROGRAM)
 
 test:
+	$(kit)
 	docs/gate.sh
 
 # The further wrong bodies, which the gate doesn't try: each must be refused too. They are tried in a
 # copy, in the place of those of must-fail. `rt must-fail` leaves out what is built for tests alone: the copy has the
 # slow plain programs, some of which are edited, in the program.
 mutants:
+	$(kit)
 	copy=$$(mktemp -d) && git ls-files -z | xargs -0 cp --parents -t $$copy && cd $$copy && \
 	sed -i '/^#\[cfg(test)\]$$/{N;s/.*\n\(mod plain;\)/\1/}' crates/*/src/lib.rt && \
 	rm -rf crates/*/must-fail && \
@@ -75,6 +86,7 @@ mutants:
 
 # Wrong definitions, each of which has to break a worked value; docs/definitions.txt gets what breaks.
 definitions:
+	$(kit)
 	docs/definitions.py --write
 
 # The shell examples of the pages and of docs/cases write what is below them, the example on each crate's first page is its

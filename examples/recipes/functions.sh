@@ -1,4 +1,5 @@
 # shellcheck shell=bash
+# SPDX-License-Identifier: MIT
 # Functions of the recipes, which each script reads. BEDTOOLS names the program, if it isn't dunekettle-bedtools; GENOME a
 # genome file, if the chromosomes aren't in the order of their bytes. Each script is one group, which bash reads to its
 # end before it runs any of it: one that was cut ends with an error, and so does one that doesn't find this file whole.
