@@ -10,7 +10,8 @@ PREFIX ?= /usr/local
 # The name of the installed program: not `bedtools`, which it would hide. It comes from the command line of make alone, since
 # others use a variable of this name.
 NAME := dunekettle-bedtools
-export NAME
+# Shells get these as they are, in variables.
+export NAME PREFIX DESTDIR
 
 # The processor to build for, where it isn't x86-64-v2: make CPU=x86-64-v3 builds bin/x86-64-v3/bedtools, which needs AVX2.
 CPU ?=
@@ -129,7 +130,7 @@ check-differences: $(PROGRAM)
 # pipelines, unchanged, with the drop-in first on PATH.
 check-front: $(PROGRAM)
 	! command -v shellcheck > /dev/null || \
-	shellcheck -x front/dunekettle front/*.sh packaging/*.sh docs/front/*.sh examples/recipes/*.sh
+	shellcheck -x front/dunekettle front/*.sh packaging/*.sh docs/front/*.sh examples/recipes/*.sh examples/shards/*.sh
 	docs/front_hostile.py
 	docs/front_streams.py
 	docs/front_random.py
@@ -154,10 +155,10 @@ completions:
 
 # The manual pages and the completions get the program's name there.
 install: $(PROGRAM)
-	packaging/install.sh "$(DESTDIR)$(PREFIX)" "$(PREFIX)" "$$NAME" $(PROGRAM) $(DOCS)
+	packaging/install.sh "$$DESTDIR$$PREFIX" "$$PREFIX" "$$NAME" $(PROGRAM) $(DOCS)
 
 uninstall:
-	packaging/uninstall.sh "$(DESTDIR)$(PREFIX)" "$$NAME"
+	packaging/uninstall.sh "$$DESTDIR$$PREFIX" "$$NAME"
 
 dist: $(PROGRAM)
 	rm -rf bin/$(DIST)

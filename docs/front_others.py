@@ -20,7 +20,7 @@ MERGED = "".join(f"chr1\t{50 * n}\t{50 * n + 20}\n" for n in range(8000)).encode
 # Calls of which one open of /dev/null fails at a time. Standard input is a file that may be written.
 OPENED = ("bedtools merge <> a.bed", "bedtools merge -i a.bed", "bedtools intersect -u -a - -b a.bed <> b.bed", "cat a.bed | bedtools merge", "cat a.bed | DUNEKETTLE_ROOM=1000 bedtools merge",
           "bedtools genomecov -i <(cat a.bed) -g g.txt", "exec 5<> c.bed 6<> c.bed 7<> c.bed 8<> c.bed 9<> c.bed; bedtools merge <> a.bed",
-          "bedtools merge -i none.bed", "dunekettle merge -i none.bed", "dunekettle merge -i a.bed", "dunekettle check a.bed")
+          "bedtools merge -i nowhere.bed", "dunekettle merge -i nowhere.bed", "dunekettle merge -i a.bed", "dunekettle check a.bed")
 
 
 def try_links(place, folder, count):
@@ -47,7 +47,7 @@ def try_links(place, folder, count):
             for asked in (str(bin_folder / program), program):
                 found = call([asked, *words], folder, looking(bin_folder))
                 count.expect(f"{asked} by a link in a folder of others", ((MERGED, "", 0), False), (found, (folder / "hit").exists()))
-        found = call([bin_folder / "dunekettle", "merge", "-i", "none.bed"], folder, looking())
+        found = call([bin_folder / "dunekettle", "merge", "-i", "nowhere.bed"], folder, looking())
         count.expect("a hint by a link in a folder of others", (1, True, False), (found[2], "isn't there" in found[1], (folder / "hit").exists()))
 
 
@@ -65,7 +65,7 @@ def try_options_of_shells(place, folder, count):
     """Options of a shell that the caller exports change no answer."""
     for option in ("errexit", "nounset", "noglob", "noclobber", "pipefail", "errexit:nounset:noclobber:noglob:pipefail"):
         for script in ("merge -i a.bed", "merge < a.bed", "merge -i <(cat a.bed)", "intersect -u -a a.bed -b a.bed", "intersect -wa -wb -a few.bed -b few.bed", "genomecov -bg -i a.bed -g g.txt",
-                       "merge -i none.bed", "merge -x", "merge -i unsorted.bed"):
+                       "merge -i nowhere.bed", "merge -x", "merge -i unsorted.bed"):
             for program in (drop_in(place) / "bedtools", place / "bin" / "dunekettle"):
                 line = f"bash --posix {program} {script}"
                 wanted, found = (call(["bash", "-c", each], folder, looking()) for each in (line, f"env SHELLOPTS={option} {line}"))

@@ -149,12 +149,14 @@ expect "what is left of an installation" "$folder/there" "$(find "$folder/there"
 for name in 'two words' 'a&b' "a'b" 'a"b' 'a|b' '-x' '..' 'a/b' "\$(touch $folder/hit)" dunekettle dunekettle-merge; do
     expect "NAME=$name" "2 no" "$(make --silent install DESTDIR= PREFIX="$folder/named" "NAME=${name//\$/\$\$}" > "$folder/said.txt" 2>&1; echo $?) $([ -e "$folder/named" ] || echo no)"
 done
-expect "what a name ran" "no" "$([ -e "$folder/hit" ] || echo no)"
-(umask 077; NAME='from the environment' make --silent install DESTDIR= PREFIX="$folder/named & |2")
-expect "the name of a program installed with another NAME in the environment" "dunekettle dunekettle-bedtools" "$(cd "$folder/named & |2/bin" && echo *)"
-expect "what others can't read" "" "$(find "$folder/named & |2" \( -type d ! -perm -5 -o -type f ! -perm -4 \) -print)"
-expect "a page's place" "yes" "$(grep -qF "named & |2/share/doc/" "$folder/named & |2/share/man/man1/dunekettle.1" && echo yes)"
-make --silent uninstall DESTDIR= PREFIX="$folder/named & |2"
+# shellcheck disable=SC2016
+odd=$folder/'named & |`touch hit`"2'
+(umask 077; NAME='from the environment' make --silent install DESTDIR= PREFIX="$odd")
+expect "the name of a program installed with another NAME in the environment" "dunekettle dunekettle-bedtools" "$(cd "$odd/bin" && echo *)"
+expect "what others can't read" "" "$(find "$odd" \( -type d ! -perm -5 -o -type f ! -perm -4 \) -print)"
+expect "a page's place" "yes" "$(grep -qF "${odd##*/}/share/doc/" "$odd/share/man/man1/dunekettle.1" && echo yes)"
+make --silent uninstall DESTDIR= PREFIX="$odd"
+expect "what a name ran" "no no" "$([ -e "$folder/hit" ] || echo no) $([ -e hit ] || echo no)"
 
 expect "licences and the SBOM" "0" "$(packaging/licences.py > "$folder/said.txt"; echo $?)"
 cat "$folder/said.txt"
