@@ -59,10 +59,11 @@ in_bash() {
         printf '%s\n' \"\${COMPREPLY[@]%%  (*}\"" | sort | paste -s -d ' '
 }
 in_fish() { fish -c "source '$share/fish/vendor_completions.d/${1%% *}.fish'; complete -C '$1'" | cut -f 1 | sort | paste -s -d ' '; }
-in_zsh() { # what zsh shows behind a tab
+in_zsh() { # what zsh shows behind a tab, as soon as it has a word
     zsh -f -c "zmodload zsh/zpty; zpty shell zsh -f -i; zpty -w shell 'fpath=($share/zsh/site-functions \$fpath)
         autoload -Uz compinit; compinit -u -d $folder/dump; PS1=; unsetopt beep; LISTMAX=999; COLUMNS=300'
-        zpty -w -n shell '$1'\$'\t'; sleep 3; zpty -r -t shell text; while zpty -r -t shell more; do text+=\$more; done; print -r -- \$text; zpty -d shell"
+        zpty -w -n shell '$1'\$'\t'; for n in {1..60}; do sleep 0.5; while zpty -r -t shell more; do text+=\$more; done
+        [[ \$text == *'$2'* ]] && break; done; print -r -- \$text; zpty -d shell"
 }
 
 records > "$folder/sorted.bed"
@@ -102,7 +103,7 @@ if has fish; then
     expect "a command of the front in fish" "check" "$(in_fish 'dunekettle ch')"
 fi
 if has zsh; then
-    shown=$(in_zsh 'trial-tools intersect -w')
+    shown=$(in_zsh 'trial-tools intersect -w' 'number of bases')
     expect "options in zsh" "yes" "$(grep -q -- '-wo .*number of bases' <<< "$shown" && echo yes)"
 fi
 
