@@ -1,3 +1,4 @@
+# SPDX-License-Identifier: MIT
 # make builds bin/bedtools, make example runs it, make test is the gate, make mutants tries further wrong bodies, and
 # make definitions wrong definitions.
 # make check-docs checks the docs, make check-program the program at its edges, make check-speed its instructions,
@@ -9,7 +10,8 @@ PREFIX ?= /usr/local
 # The name of the installed program: not `bedtools`, which it would hide. It comes from the command line of make alone, since
 # others use a variable of this name.
 NAME := dunekettle-bedtools
-export NAME
+# Shells get these as they are, in variables.
+export NAME PREFIX DESTDIR
 
 # The processor to build for, where it isn't x86-64-v2: make CPU=x86-64-v3 builds bin/x86-64-v3/bedtools, which needs AVX2.
 CPU ?=
@@ -48,12 +50,20 @@ endef
 
 # The run builds what it runs, and merges nothing.
 $(PROGRAM): $(SOURCES)
+	$(kit)
 	@mkdir -p $(@D)
 	@echo "Proving what changed and building $@; the prover's output goes to $(LOG)."
 	@cd crates/bedtools && rt run $(if $(CPU),--cpu $(CPU)) -- merge -i /dev/null -g /dev/null > ../../$(LOG) 2>&1 || \
 	{ tail -n 20 ../../$(LOG); echo "Not built: see $(LOG)."; exit 1; }
 	@cp crates/bedtools/out/bedtools $@
 	$(finish)
+
+# What proves and builds isn't a part of this repository.
+define kit
+@command -v rt > /dev/null || { \
+	echo 'No rt on PATH: this needs the Rattle kit (rattle-kit-13f: prover, compiler, libraries), which is not a part of this repository.'; \
+	echo 'Ask for it whoever gave you this, and put its folder bin on PATH: export PATH=/where/it/is/bin:$$PATH'; exit 1; }
+endef
 
 # Takes the program that `rt ci` built.
 built:
@@ -64,12 +74,14 @@ example: $(PROGRAM)
 	@examples/run.sh $(PROGRAM)
 
 test:
+	$(kit)
 	tests/gate.sh
 
 # The further wrong bodies, which the gate doesn't try: each must be refused too. They are tried in a
 # copy, in the place of those of must-fail. `rt must-fail` leaves out what is built for tests alone: the copy has the
 # slow plain programs, some of which are edited, in the program.
 mutants:
+	$(kit)
 	copy=$$(mktemp -d) && git ls-files -z | xargs -0 cp --parents -t $$copy && cd $$copy && \
 	sed -i '/^#\[cfg(test)\]$$/{N;s/.*\n\(mod plain;\)/\1/}' crates/*/src/lib.rt && \
 	rm -rf crates/*/must-fail && \
@@ -78,6 +90,7 @@ mutants:
 
 # Wrong definitions, each of which has to break a worked value; tests/definitions/definitions.txt gets what breaks.
 definitions:
+	$(kit)
 	tests/definitions/definitions.py --write
 
 # The shell examples of the pages and of tests/pages/cases write what is below them, the example on each crate's first page is its
@@ -108,7 +121,7 @@ check-differences: $(PROGRAM)
 # pipelines, unchanged, with the drop-in first on PATH.
 check-front: $(PROGRAM)
 	! command -v shellcheck > /dev/null || \
-	shellcheck -x front/dunekettle front/*.sh packaging/*.sh tests/packages/*.sh tests/drop_in/pipelines/*.sh recipes/*.sh
+	shellcheck -x front/dunekettle front/*.sh packaging/*.sh tests/packages/*.sh tests/drop_in/pipelines/*.sh recipes/*.sh shards/*.sh
 	tests/drop_in/front_hostile.py
 	tests/drop_in/front_streams.py
 	tests/drop_in/front_random.py
@@ -133,10 +146,10 @@ completions:
 
 # The manual pages and the completions get the program's name there.
 install: $(PROGRAM)
-	packaging/install.sh "$(DESTDIR)$(PREFIX)" "$(PREFIX)" "$$NAME" $(PROGRAM) $(DOCS)
+	packaging/install.sh "$$DESTDIR$$PREFIX" "$$PREFIX" "$$NAME" $(PROGRAM) $(DOCS)
 
 uninstall:
-	packaging/uninstall.sh "$(DESTDIR)$(PREFIX)" "$$NAME"
+	packaging/uninstall.sh "$$DESTDIR$$PREFIX" "$$NAME"
 
 dist: $(PROGRAM)
 	rm -rf bin/$(DIST)

@@ -35,6 +35,8 @@ has_no() {
 # look_at_text: sets `dk_why` unless samtools writes the SAM text as it is, so that htslib reads it so, and each
 # alignment and each block has a base
 look_at_text() {
+    # What isn't UTF-8 in its words the program says before anything else.
+    case $("$dk_program" "$dk_i" 2>&1 < /dev/null) in *'not UTF-8') dk_why='a name is not UTF-8'; return ;; esac
     if ! has_no "^[^@]$dk_columns($dk_no_base)" "$dk_i"; then
         dk_why="$dk_i has alignments or blocks without a base"
         return

@@ -84,7 +84,8 @@ end_feeders() {
         case $1 in
         lost) dk_lost=1 ;;
         feeder)
-            if is_running "${2%:*}" && started "${2%:*}" && [ "$dk_started" = "${2#*:}" ]; then end_with_children "${2%:*}"
+            if is_running "${2%:*}" && started "${2%:*}" && [ "$dk_started" = "${2#*:}" ]; then
+                end_with_children "${2%:*}"
             else is_noted "fed $2" || dk_lost=1
             fi
             ;;

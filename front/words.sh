@@ -42,10 +42,10 @@ is_count() { case $1 in 0) ;; '' | *[!0-9]* | 0* | ????????????????*) return 1 ;
 # reads_standard_input: whether it does without saying so
 reads_standard_input() { case $dk_command in merge | bamtobed) ! has_word -i ;; *) return 1 ;; esac; }
 
-# is_stream FILE: whether it can't be looked at and then read again; a link to standard input is seen by its device here.
-# If /dev/null can't be opened, it may be one.
+# is_stream FILE: whether it can't be looked at and then read again; a link to standard input is seen by its device
+# here. If /dev/null can't be opened, it may be one.
 is_stream() {
-    case $1 in - | stdin | /dev/fd/* | /dev/std* | /proc/*) return ;; esac
+    case $1 in - | stdin | /dev/fd/* | /dev/std* | /proc/*) return 0 ;; esac
     ! { [ ! -e "$1" ] || [ -f "$1" ] || [ -d "$1" ]; } < /dev/null
 }
 

@@ -7,8 +7,9 @@
 #
 # ROOT is the folder of the installation now, AT where it will be, NAME the program's name in ROOT/bin. Each file is
 # written beside its place and then renamed: whoever runs it meanwhile has the old one or the new one, whole. All users can
-# read what is installed, whatever the umask.
-set -eu
+# read what is installed, whatever the umask. What is beside it already, as a link that another user has put there, is
+# removed, and never written to.
+set -euC
 umask 022
 
 root=$1 at=$2 name=$3 program=$4
@@ -33,6 +34,7 @@ put() {
     put_mode=$1 put_file=$2
     shift 2
     mkdir -p "${put_file%/*}"
+    rm -f "$put_file.new"
     if ! { "$@" > "$put_file.new" && chmod "$put_mode" "$put_file.new" && mv -fT "$put_file.new" "$put_file"; }; then
         rm -f "$put_file.new"
         echo "$put_file can't be installed" >&2

@@ -1,4 +1,5 @@
 # shellcheck shell=bash
+# SPDX-License-Identifier: MIT
 # Functions of the recipes, which each script reads. BEDTOOLS names the program, if it isn't dunekettle-bedtools; GENOME a
 # genome file, if the chromosomes aren't in the order of their bytes. Each script is one group, which bash reads to its
 # end before it runs any of it: one that was cut ends with an error, and so does one that doesn't find this file whole.
@@ -26,7 +27,11 @@ from() {
 twice() { [ -f "$1" ] || fail "$1 is read twice, and is no file: write it to one"; }
 
 # A folder of this run, which is removed at its end; awk finds it in ENVIRON, where a backslash is one.
-work() { folder=$(mktemp -d) && export folder && trap 'rm -rf "$folder"' EXIT; }
+work() {
+    export folder=
+    trap '[ -z "$folder" ] || rm -rf "$folder"' EXIT
+    folder=$(mktemp -d)
+}
 
 # read_words KNOWN WORD..: the options of a command line, as variables opt_X; those in KNOWN that end with : have a value.
 # `files` has the files of -b, which are several only if KNOWN has ..

@@ -1,5 +1,6 @@
 #!/bin/bash
 { # bash reads all of it before it runs any, so that a script that was cut ends with an error.
+# SPDX-License-Identifier: MIT
 # index.sh FILE..: makes of each BED file NAME.bed.gz, without header lines and blank lines, and the index of tabix; and of
 # each FASTA file the index NAME.fa.index: a line for each sequence, with its name, its first byte and how many it has.
 # What tabix would leave out without a word, or with a word alone, ends it with status 1, and so does a name that can't be

@@ -1,5 +1,6 @@
 #!/bin/bash
 { # bash reads all of it before it runs any, so that a script that was cut ends with an error.
+# SPDX-License-Identifier: MIT
 # shard.sh NAME WORD..: dunekettle-bedtools WORD.. over one shard, whose part of each input is put into the folder shards/NAME.
 set -euo pipefail
 fail() { echo "shard.sh: $1" >&2; exit 1; }

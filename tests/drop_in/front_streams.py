@@ -4,7 +4,8 @@
     tests/drop_in/front_streams.py
 
 A TMPDIR that is missing, read-only, full or a file; endless, slow and long streams; two of one producer; signals while
-a stream is copied, while files are looked at, and while bedtools reads a long stream; a copy that fails; other shells.
+a stream is copied, while files are looked at, and while bedtools reads a long stream; a copy that fails; other shells;
+and the folders, named pipes and processes of others, and a redirection that fails (front_others.py).
 Each call has to answer as bedtools 2.30.0 does, or to end with a fault, and no file and no process may be left. Ends
 with 1 where something differs, and with 0 and a word where there is no bedtools 2.30.0.
 """
@@ -19,6 +20,7 @@ import tempfile
 import time
 from pathlib import Path
 
+from front_others import try_others
 from front_tools import TOLD, Count, call, drop_in, install, is_busy, looking, original
 
 SHELLS = ("dash", "bash --posix", "busybox sh")
@@ -215,6 +217,7 @@ def main():
         try_losses(place, folder, count)
         try_signals(place, folder, count)
         try_shells(theirs, place, folder, count)
+        try_others(place, folder, count)
     return 1 if count.close() else 0
 
 

@@ -59,10 +59,11 @@ in_bash() {
         printf '%s\n' \"\${COMPREPLY[@]%%  (*}\"" | sort | paste -s -d ' '
 }
 in_fish() { fish -c "source '$share/fish/vendor_completions.d/${1%% *}.fish'; complete -C '$1'" | cut -f 1 | sort | paste -s -d ' '; }
-in_zsh() { # what zsh shows behind a tab
+in_zsh() { # what zsh shows behind a tab, as soon as it has a word
     zsh -f -c "zmodload zsh/zpty; zpty shell zsh -f -i; zpty -w shell 'fpath=($share/zsh/site-functions \$fpath)
         autoload -Uz compinit; compinit -u -d $folder/dump; PS1=; unsetopt beep; LISTMAX=999; COLUMNS=300'
-        zpty -w -n shell '$1'\$'\t'; sleep 3; zpty -r -t shell text; while zpty -r -t shell more; do text+=\$more; done; print -r -- \$text; zpty -d shell"
+        zpty -w -n shell '$1'\$'\t'; for n in {1..60}; do sleep 0.5; while zpty -r -t shell more; do text+=\$more; done
+        [[ \$text == *'$2'* ]] && break; done; print -r -- \$text; zpty -d shell"
 }
 
 records > "$folder/sorted.bed"
@@ -102,7 +103,7 @@ if has fish; then
     expect "a command of the front in fish" "check" "$(in_fish 'dunekettle ch')"
 fi
 if has zsh; then
-    shown=$(in_zsh 'trial-tools intersect -w')
+    shown=$(in_zsh 'trial-tools intersect -w' 'number of bases')
     expect "options in zsh" "yes" "$(grep -q -- '-wo .*number of bases' <<< "$shown" && echo yes)"
 fi
 
@@ -149,12 +150,14 @@ expect "what is left of an installation" "$folder/there" "$(find "$folder/there"
 for name in 'two words' 'a&b' "a'b" 'a"b' 'a|b' '-x' '..' 'a/b' "\$(touch $folder/hit)" dunekettle dunekettle-merge; do
     expect "NAME=$name" "2 no" "$(make --silent install DESTDIR= PREFIX="$folder/named" "NAME=${name//\$/\$\$}" > "$folder/said.txt" 2>&1; echo $?) $([ -e "$folder/named" ] || echo no)"
 done
-expect "what a name ran" "no" "$([ -e "$folder/hit" ] || echo no)"
-(umask 077; NAME='from the environment' make --silent install DESTDIR= PREFIX="$folder/named & |2")
-expect "the name of a program installed with another NAME in the environment" "dunekettle dunekettle-bedtools" "$(cd "$folder/named & |2/bin" && echo *)"
-expect "what others can't read" "" "$(find "$folder/named & |2" \( -type d ! -perm -5 -o -type f ! -perm -4 \) -print)"
-expect "a page's place" "yes" "$(grep -qF "named & |2/share/doc/" "$folder/named & |2/share/man/man1/dunekettle.1" && echo yes)"
-make --silent uninstall DESTDIR= PREFIX="$folder/named & |2"
+# shellcheck disable=SC2016
+odd=$folder/'named & |`touch hit`"2'
+(umask 077; NAME='from the environment' make --silent install DESTDIR= PREFIX="$odd")
+expect "the name of a program installed with another NAME in the environment" "dunekettle dunekettle-bedtools" "$(cd "$odd/bin" && echo *)"
+expect "what others can't read" "" "$(find "$odd" \( -type d ! -perm -5 -o -type f ! -perm -4 \) -print)"
+expect "a page's place" "yes" "$(grep -qF "${odd##*/}/share/doc/" "$odd/share/man/man1/dunekettle.1" && echo yes)"
+make --silent uninstall DESTDIR= PREFIX="$odd"
+expect "what a name ran" "no no" "$([ -e "$folder/hit" ] || echo no) $([ -e hit ] || echo no)"
 
 expect "licences and the SBOM" "0" "$(packaging/licences.py > "$folder/said.txt"; echo $?)"
 cat "$folder/said.txt"
