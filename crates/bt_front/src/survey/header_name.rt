@@ -1,0 +1,54 @@
+//! Names of chromosomes that bedtools passes over.
+
+ghost use Rattle.std.specs.Prelude.{◌≡◌};
+ghost use Rattle.bt_front.specs.model.Odd.{begins_as, is_header_name, is_space};
+
+/// Whether bedtools passes over a line with this name, as a header line.
+pub(crate) fn is_header_name(name: &[u8]) -> bool
+    ensures { result ≡ is_header_name name.now }
+{
+    if begins_as(name, b"!") || begins_as(name, b">") || begins_as(name, b"visibility") {
+        return true;
+    }
+    if begins_as(name, b"track") || begins_as(name, b"browser") {
+        return true;
+    }
+    begins_as(name, b"chr") && (is_space_at(name, 3) || is_chrom(name))
+}
+
+// Whether it is the word `chrom`, or has a space after it.
+fn is_chrom(name: &[u8]) -> bool {
+    begins_as(name, b"chrom") && (name.len() == 5 || is_space_at(name, 5))
+}
+
+// Whether a byte that isn't printed as a letter, but that bedtools takes for a space, stands there.
+fn is_space_at(name: &[u8], at: usize) -> bool {
+    match name.get(at) {
+        Some(byte) => is_space(*byte),
+        None => false,
+    }
+}
+
+// Whether bedtools takes it for a space. A tab isn't in a name.
+fn is_space(byte: u8) -> bool
+    ensures { result ≡ is_space byte }
+{
+    matches!(byte, b' ' | 11 | 12 | b'\r')
+}
+
+/// Whether a name begins with a word of lowercase letters, whatever the case of its own.
+pub(crate) fn begins_as(name: &[u8], word: &[u8]) -> bool
+    ensures { result ≡ begins_as word.now name.now }
+{
+    if name.len() < word.len() {
+        return false;
+    }
+    let mut at = 0;
+    while at < word.len() {
+        if name[at].to_ascii_lowercase() != word[at] {
+            return false;
+        }
+        at += 1;
+    }
+    true
+}
