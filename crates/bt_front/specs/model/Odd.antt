@@ -1,5 +1,5 @@
 -- Lines that bedtools 2.30.0 reads otherwise, or takes for the end of a text.
-use Rattle.std.specs.Prelude.{ℕ, suc, Bool, true, false, ◌≡◌, ◌==◌, ◌&&◌, ◌||◌, not, List, [], ◌∷◌, bytes_eq, codes, length, map, nat_lt, nat_le, take, drop, Option, Some, None, IsFalse, IsTrue}
+use Rattle.std.specs.Prelude.{ℕ, suc, Bool, true, false, ◌≡◌, ◌==◌, ◌&&◌, ◌||◌, not, List, [], ◌∷◌, ◌++◌, bytes_eq, codes, length, map, nat_lt, nat_le, take, drop, Option, Some, None, IsFalse, IsTrue}
 use Rattle.std.specs.List.{list_any, list_all}
 use Rattle.std.specs.Io.BufRead.{strip_last}
 use Rattle.std.specs.Char.{to_ascii_lowercase}

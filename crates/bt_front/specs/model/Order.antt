@@ -1,5 +1,5 @@
 -- Orders of chromosomes that fit texts, and their genome files.
-use Rattle.std.specs.Prelude.{ℕ, Bool, true, ◌≡◌, ◌&&◌, ◌++◌, List, [], ◌∷◌, codes, decimal, filter, flat_map, map, nat_le, not, Option, Some, None, unwrap_or, find, bytes_eq}
+use Rattle.std.specs.Prelude.{ℕ, Bool, true, ◌≡◌, ◌&&◌, ◌||◌, ◌++◌, List, [], ◌∷◌, codes, decimal, filter, flat_map, map, nat_le, not, Option, Some, None, unwrap_or, find, bytes_eq}
 use Rattle.std.specs.List.{list_all}
 use Rattle.std.specs.Ordering.{is_lt}
 use Rattle.bt_bed.specs.calls.Orders.{AreDistinct}

@@ -1,5 +1,5 @@
 -- Who takes a command line: the table.
-use Rattle.std.specs.Prelude.{ℕ, Bool, true, false, ◌≡◌, ◌*◌, ◌%◌, ◌==◌, ◌&&◌, ◌||◌, not, List, [], ◌∷◌, ◌++◌, length, map, nat_lt, Option, Some, None, option_to_list, is_some, if◌then◌else◌, ⊤, ⊥}
+use Rattle.std.specs.Prelude.{ℕ, Bool, true, false, ◌≡◌, ◌*◌, ◌%◌, ◌==◌, ◌&&◌, ◌||◌, not, List, [], ◌∷◌, ◌++◌, length, map, nat_lt, Option, Some, None, option_to_list, is_some, if◌then◌else◌}
 use Rattle.std.specs.List.{list_all, list_any}
 use Rattle.std.specs.Option.{option_map_or}
 use Rattle.bt_lines.specs.declared.fault.Input.{Input}

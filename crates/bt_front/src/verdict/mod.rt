@@ -48,7 +48,7 @@ pub struct Texts<'a> {
 impl Verdict {
     /// Who takes what is asked of these texts.
     pub fn on(asked: Asked, texts: Texts<'_>) -> Verdict
-        ensures { result ≡ verdict_of asked (facts_in texts) }
+        ensures { result ≡ verdict_of asked (facts_in texts.entry) }
     {
         match reason_to_leave(asked, texts) {
             Some(reason) => Verdict::Leave(reason),
@@ -59,7 +59,7 @@ impl Verdict {
 
 // Why bedtools takes it, if it does.
 fn reason_to_leave(asked: Asked, texts: Texts<'_>) -> Option<Reason>
-    ensures { result ≡ reason_of asked (facts_in texts) }
+    ensures { result ≡ reason_of asked (facts_in texts.entry) }
 {
     if matches!(
         asked.command,
@@ -80,7 +80,7 @@ fn second_reason(asked: Asked, texts: Texts<'_>) -> Option<Reason> {
 
 // In which order of chromosomes a command line that is taken runs.
 fn order_taken(asked: Asked, texts: Texts<'_>) -> OrderTaken
-    ensures { result ≡ order_by asked.command (facts_in texts) }
+    ensures { result ≡ order_by asked.command (facts_in texts.entry) }
 {
     if matches!(asked.command, Command::Coverage { .. }) {
         return OrderTaken::RecordsFirst;

@@ -2,7 +2,8 @@
 
 ghost use Rattle.std.specs.Prelude.{◌≡◌, option_map};
 ghost use Rattle.bt_front.specs.calls.Facts.{facts_in, genome_facts, text_facts};
-ghost use Rattle.bt_front.specs.model.Verdict.{are_by_bytes, are_other_names, first_of, genome_rows, input_rows, lists_hits, needs_strand, order_rows, output_rows};
+ghost use Rattle.bt_front.specs.model.Words.{first_of};
+ghost use Rattle.bt_front.specs.model.Verdict.{are_by_bytes, are_other_names, input_rows, lists_hits, needs_strand, order_rows, output_rows};
 
 use crate::order::{agree, are_in_genome_order, are_known, fit_lengths};
 use crate::survey::Survey;
@@ -56,7 +57,7 @@ fn needs_strand(command: Command) -> bool
 
 /// What makes the orders of the inputs bedtools' own.
 pub(crate) fn order_reason(asked: Asked, texts: Texts<'_>) -> Option<Reason>
-    ensures { result ≡ first_of (order_rows asked (facts_in texts)) }
+    ensures { result ≡ first_of (order_rows asked (facts_in texts.entry)) }
 {
     if are_other_names(texts) {
         return Some(Reason::OtherNames);
@@ -134,7 +135,7 @@ fn byte_reason(asked: Asked, texts: Texts<'_>) -> Option<Reason> {
 
 /// Whether the chromosomes of all inputs come by the bytes of their names.
 pub(crate) fn are_by_bytes(texts: Texts<'_>) -> bool
-    ensures { result ≡ are_by_bytes (facts_in texts).first (facts_in texts).second }
+    ensures { result ≡ are_by_bytes (facts_in texts.entry).first (facts_in texts.entry).second }
 {
     match texts.second {
         Some(second) => texts.first.records.by_bytes && second.records.by_bytes,
@@ -144,7 +145,7 @@ pub(crate) fn are_by_bytes(texts: Texts<'_>) -> bool
 
 /// What makes the output bedtools' own.
 pub(crate) fn output_reason(asked: Asked, texts: Texts<'_>) -> Option<Reason>
-    ensures { result ≡ first_of (output_rows asked asked.command (facts_in texts).first.count) }
+    ensures { result ≡ first_of (output_rows asked asked.command (facts_in texts.entry).first.count) }
 {
     match asked.command {
         Command::Intersect { shape, .. } if !asked.is_sorted && lists_hits(shape) => {

@@ -6,7 +6,7 @@ pub(crate) mod word_reason;
 ghost use Rattle.std.specs.Prelude.{◌≡◌, Ok, Some};
 ghost use Rattle.bt_tool.specs.calls.Plan.{plan_seen, words_seen};
 ghost use Rattle.bt_tool.specs.model.Options.{options};
-ghost use Rattle.bt_front.specs.model.Words.{asked_of, command_reason, has_fraction_of_zero, items_in, needs_strand};
+ghost use Rattle.bt_front.specs.model.Words.{asked_of, command_reason, items_in};
 
 use crate::words::given::{has_repeated, is_given};
 use crate::words::word_reason::WordReason;
