@@ -4,9 +4,12 @@ mod fraction;
 pub(crate) mod reason;
 mod rows;
 
-ghost use Rattle.std.specs.Prelude.{◌≡◌};
+ghost use Rattle.std.specs.Prelude.{◌≡◌, []};
+ghost use Rattle.std.specs.Option.{option_map_or};
+ghost use Rattle.bt_lines.specs.declared.fault.Input.TheVariants.{Second};
+ghost use Rattle.bt_front.specs.model.Words.{first_of};
 ghost use Rattle.bt_front.specs.calls.Facts.{facts_in};
-ghost use Rattle.bt_front.specs.model.Verdict.{order_by, reason_of, verdict_of};
+ghost use Rattle.bt_front.specs.model.Verdict.{input_rows, order_by, reason_of, verdict_of};
 
 use crate::survey::Survey;
 use crate::survey::genome_survey::GenomeSurvey;
@@ -74,7 +77,9 @@ fn reason_to_leave(asked: Asked, texts: Texts<'_>) -> Option<Reason>
 }
 
 // What makes the second input bedtools' own.
-fn second_reason(asked: Asked, texts: Texts<'_>) -> Option<Reason> {
+fn second_reason(asked: Asked, texts: Texts<'_>) -> Option<Reason>
+    ensures { result ≡ first_of (option_map_or (input_rows asked.command Second) (facts_in texts.entry).second []) }
+{
     input_reason(asked.command, Input::Second, texts.second?)
 }
 

@@ -1,9 +1,11 @@
 //! The rows of the table by which bedtools takes a command line.
 
-ghost use Rattle.std.specs.Prelude.{◌≡◌, option_map};
-ghost use Rattle.bt_front.specs.calls.Facts.{facts_in, genome_facts, text_facts};
+ghost use Rattle.std.specs.Prelude.{◌≡◌, false};
+ghost use Rattle.std.specs.Option.{option_map_or};
+ghost use Rattle.bt_bed.specs.calls.GenomeTable.{names_of};
+ghost use Rattle.bt_front.specs.calls.Facts.{facts_in, genome_facts, record_facts, text_facts};
 ghost use Rattle.bt_front.specs.model.Words.{first_of};
-ghost use Rattle.bt_front.specs.model.Verdict.{are_by_bytes, are_other_names, input_rows, lists_hits, needs_strand, order_rows, output_rows};
+ghost use Rattle.bt_front.specs.model.Verdict.{are_by_bytes, are_other_names, byte_rows, fits_genome, genome_rows, input_rows, lists_hits, needs_strand, order_rows, output_rows};
 
 use crate::order::{agree, are_in_genome_order, are_known, fit_lengths};
 use crate::survey::Survey;
@@ -69,7 +71,9 @@ pub(crate) fn order_reason(asked: Asked, texts: Texts<'_>) -> Option<Reason>
 }
 
 // Whether the names of one input all begin with `chr`, and none of the other's.
-fn are_other_names(texts: Texts<'_>) -> bool {
+fn are_other_names(texts: Texts<'_>) -> bool
+    ensures { result ≡ option_map_or (are_other_names (facts_in texts.entry).first) (facts_in texts.entry).second false }
+{
     match texts.second {
         Some(second) => differ(&texts.first.records, &second.records),
         None => false,
@@ -77,7 +81,9 @@ fn are_other_names(texts: Texts<'_>) -> bool {
 }
 
 // The same of two inputs.
-fn differ(first: &RecordsSeen, second: &RecordsSeen) -> bool {
+fn differ(first: &RecordsSeen, second: &RecordsSeen) -> bool
+    ensures { result ≡ are_other_names (record_facts first.now) (record_facts second.now) }
+{
     if first.count == 0 || second.count == 0 {
         return false;
     }
@@ -87,7 +93,9 @@ fn differ(first: &RecordsSeen, second: &RecordsSeen) -> bool {
 }
 
 // By a genome file.
-fn genome_reason(command: Command, genome: &GenomeSurvey, texts: Texts<'_>) -> Option<Reason> {
+fn genome_reason(command: Command, genome: &GenomeSurvey, texts: Texts<'_>) -> Option<Reason>
+    ensures { result ≡ first_of (genome_rows command (genome_facts genome.now) (facts_in texts.entry).first (facts_in texts.entry).second) }
+{
     if genome.has_odd_comment {
         return Some(Reason::OddComment);
     }
@@ -107,7 +115,9 @@ fn genome_reason(command: Command, genome: &GenomeSurvey, texts: Texts<'_>) -> O
 }
 
 // Whether the genome file has the chromosomes of an input; in its order, unless they will be put first.
-fn fits_genome(command: Command, genome: &GenomeSurvey, survey: &Survey) -> bool {
+fn fits_genome(command: Command, genome: &GenomeSurvey, survey: &Survey) -> bool
+    ensures { result ≡ fits_genome command (names_of genome.now.chromosomes) (text_facts survey.now) }
+{
     match command {
         Command::Coverage { .. } => are_known(&genome.chromosomes, &survey.records.chromosomes),
         _ => are_in_genome_order(&genome.chromosomes, &survey.records.chromosomes),
@@ -115,7 +125,9 @@ fn fits_genome(command: Command, genome: &GenomeSurvey, survey: &Survey) -> bool
 }
 
 // Without a genome file.
-fn byte_reason(asked: Asked, texts: Texts<'_>) -> Option<Reason> {
+fn byte_reason(asked: Asked, texts: Texts<'_>) -> Option<Reason>
+    ensures { result ≡ first_of (byte_rows asked (facts_in texts.entry).first (facts_in texts.entry).second) }
+{
     if are_by_bytes(texts) {
         return None;
     }

@@ -3,10 +3,10 @@
 pub(crate) mod given;
 pub(crate) mod word_reason;
 
-ghost use Rattle.std.specs.Prelude.{◌≡◌, Ok, Some};
+ghost use Rattle.std.specs.Prelude.{◌≡◌, IsOk, Ok};
 ghost use Rattle.bt_tool.specs.calls.Plan.{plan_seen, words_seen};
 ghost use Rattle.bt_tool.specs.model.Options.{options};
-ghost use Rattle.bt_front.specs.model.Words.{asked_of, command_reason, items_in};
+ghost use Rattle.bt_front.specs.model.Words.{asked_of, command_reason, first_of, fraction_rows, items_in};
 
 use crate::words::given::{has_repeated, is_given};
 use crate::words::word_reason::WordReason;
@@ -71,9 +71,8 @@ fn command_reason(words: &[String], plan: &Plan) -> Option<WordReason>
             strand: Some(_),
         } => Some(WordReason::ZerosOfStrand),
         Command::Coverage { .. } => None,
-        Command::Intersect { rule, .. } | Command::Subtract { rule, .. } => zero_fraction(
-            words, rule,
-        ),
+        Command::Intersect { rule, .. } => zero_fraction(words, rule),
+        Command::Subtract { rule, .. } => zero_fraction(words, rule),
         Command::BamToBed {
             split: true,
             cigar: true,
@@ -86,7 +85,10 @@ fn command_reason(words: &[String], plan: &Plan) -> Option<WordReason>
 }
 
 // Whether `-f` is given, and requires nothing.
-fn zero_fraction(words: &[String], rule: HitRule) -> Option<WordReason> {
+fn zero_fraction(words: &[String], rule: HitRule) -> Option<WordReason>
+    requires { IsOk (options (words_seen words.now)) }
+    ensures { result ≡ first_of (fraction_rows (items_in (words_seen words.now)) rule) }
+{
     if rule.billionths == 0 && is_given(words, "-f") {
         Some(WordReason::ZeroFraction)
     } else {
