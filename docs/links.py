@@ -84,6 +84,8 @@ LIMIT, LIMITED = r"At most (\d+) words a sentence", r"^PARAGRAPH, SENTENCE, CELL
 
 # Where PROVED.md says in how many files and lines the report is defined, and the file that names the others.
 DEFINITIONS = re.compile(r"definitions that it names: (\d+) files with about ([\d,]+) lines")
+# What bt_front says of words.
+FRONT = TOP / "crates" / "bt_front" / "specs" / "model" / "Words.antt"
 REPORT = TOP / "crates" / "bt_tool" / "specs" / "model" / "Report.antt"
 
 # In a file of the model: where a definition begins, with its name, also within a module, if it isn't a field; a word that
@@ -248,7 +250,7 @@ def strays():
         for line in re.findall(r"^\s*((?:pub )?use .*)", file.read_text(encoding="utf-8"), re.MULTILINE):
             if not MAY_IMPORT.match(line) and line != FOUND:
                 yield f"{file.relative_to(TOP)} has an import that isn't of the model: {line}"
-    for file in sorted(model() - definitions()):
+    for file in sorted(model() - definitions() - {FRONT}):
         yield f"{file.relative_to(TOP)} is of the model, and the report doesn't name it"
 
 
@@ -271,11 +273,11 @@ def imports_of(file):
 
 
 def unnamed():
-    """The definitions of the model that the report doesn't name, directly or through others. A variable counts as the
+    """The definitions of the model that neither the report nor bt_front's `asked_of` names, directly or through others. A variable counts as the
     definition of its name, and an operator as a name that nothing has."""
     words = {file: words_of(file) for file in sorted(model())}
     places = {file: {**{name: (file, name) for name in words[file]}, **imports_of(file)} for file in words}
-    found, open_ones = set(), [(REPORT, "report")]
+    found, open_ones = set(), [(REPORT, "report"), (FRONT, "asked_of")]
     while open_ones:
         file, name = open_ones.pop()
         if (file, name) not in found:

@@ -23,7 +23,7 @@ PAGES = ("*.md", "docs/*.md", "bench/*.md", "packaging/*.md", "crates/*/README.m
 COUNTS = ("paragraphs", "sentences", "cells", "dialect", "history", "proofs", "terms", "marks")
 PARAGRAPH, SENTENCE, CELL = 80, 22, 25
 ASIDE = 6
-MOST = 24_000
+MOST = 24_100
 # The tables of the bench and of the drop-in, with the lines around them.
 MEASURED = re.compile(r"<!-- (?:bench/results.py --write|a script writes): \w+ -->\n.*?<!-- it ends here -->", re.DOTALL)
 # All that scripts write.

@@ -1,6 +1,2 @@
--- What one has to believe: which command lines Dunekettle takes, and what is read of their texts.
-pub mod Odd
-pub mod Order
-pub mod TextFacts
-pub mod Verdict
+-- What one has to believe: for which words bedtools takes a command line.
 pub mod Words

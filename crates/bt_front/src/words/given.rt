@@ -14,7 +14,18 @@ fn takes_value(word: &str) -> bool
 {
     matches!(
         word,
-        "-i" | "-a" | "-b" | "-g" | "-f" | "-d" | "-S" | "-held" | "-strand" | "-fi" | "-bed" | "-fo" | "-mc"
+        "-i" | "-a"
+            | "-b"
+            | "-g"
+            | "-f"
+            | "-d"
+            | "-S"
+            | "-held"
+            | "-strand"
+            | "-fi"
+            | "-bed"
+            | "-fo"
+            | "-mc"
     )
 }
 

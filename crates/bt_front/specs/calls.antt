@@ -1,4 +1,0 @@
--- What calls do, as contracts say it.
-pub mod Bytes
-pub mod Chromosomes
-pub mod Facts
