@@ -159,7 +159,7 @@ def misplaced():
 def unknown_names():
     """The names that a page says and nothing in code, definitions or the drop-in has, each with the page and its line."""
     files = [file for pattern in ("crates/*/src/**/*.rt", "crates/*/specs/**/*.antt", "front/*") for file in TOP.glob(pattern)]
-    known = set(WORD.findall("".join(file.read_text(encoding="utf-8") for file in files))) | {file.stem for file in files} | THEIRS
+    known = set(WORD.findall("".join(file.read_text(encoding="utf-8") for file in files))) | {file.stem for file in files} | {file.relative_to(TOP).parts[1] for file in files} | THEIRS
     for page in PAGES:
         for number, line in enumerate(page.read_text(encoding="utf-8").splitlines(), 1):
             yield from ((page, number, name) for name in NAMES.findall(line) if name not in known)
