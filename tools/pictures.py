@@ -35,6 +35,7 @@ NOTES = {
     "bt_sweep": "the sweep over two inputs",
     "bt_seq": "SAM text, FASTA text",
     "bt_tool": "options, plan, run, outcome",
+    "bt_front": "words for bedtools",
     "bt_laws": "laws",
     "bedtools": "the program: files, streams, main",
 }

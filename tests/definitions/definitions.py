@@ -30,8 +30,8 @@ TABLE = HERE / "definitions.txt"
 # The crates with definitions.
 MODELS = ("bt_lines", "bt_bed", "bt_runs", "bt_sweep", "bt_seq", "bt_tool")
 # The definitions of those crates, of the worked values, and of the scans for stretches and for intervals of equal depth.
-SPECS = ("*/specs/model/*.antt", "bt_laws/specs/WholeRuns.antt", "bt_laws/specs/Worked.antt",
-         "bt_bed/specs/calls/LevelScan.antt", "bt_bed/specs/calls/Stretches.antt")
+SPECS = (*(f"{crate}/specs/model/*.antt" for crate in MODELS), "bt_laws/specs/WholeRuns.antt",
+         "bt_laws/specs/Worked.antt", "bt_bed/specs/calls/LevelScan.antt", "bt_bed/specs/calls/Stretches.antt")
 LEMMAS = ("bt_lines/proofs/Std.antt", "bt_bed/proofs/lemmas/LevelScans.antt", "bt_bed/proofs/lemmas/StretchScans.antt")
 HEAD = "# What definitions.py writes: file | definition | wrong variant | the worked values that it breaks\n"
 

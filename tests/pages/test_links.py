@@ -81,6 +81,7 @@ BEGINS = re.compile(r"^(?:(?:(?:abbrev|unfoldable|pub|record|data) )+|(?=\S+ : )
                     r"  (?:(?:abbrev|unfoldable)(?: pub)?|(?:pub )?(?:record|data)) )(?!--|record |data )(\S+)",
                     re.MULTILINE)
 WORD = re.compile(r"(?<![.\w])\w+")
+OF_FRONT = re.compile(r"use Rattle\.bt_front\.specs\.model\.(\w+)\.\{(.*)\}")
 FROM_MODEL = re.compile(r"^use Rattle\.(bt_\w+)\.specs\.model\.(\w+)\.\{(.*)\}", re.MULTILINE)
 MAY_IMPORT = re.compile(r"use Rattle\.(?:std\.specs|bt_\w+\.specs\.(?:model|declared))\.")
 
@@ -151,7 +152,7 @@ def unknown_names():
     """The names that a page says and nothing in code, definitions or the drop-in has, and no script."""
     files = [file for pattern in SOURCES for file in TOP.glob(pattern)]
     known = set(WORD.findall("".join(file.read_text(encoding="utf-8") for file in files)))
-    known |= {file.stem for file in (*files, *TESTS)} | THEIRS
+    known |= {file.stem for file in (*files, *TESTS)} | {file.relative_to(TOP).parts[1] for file in files} | THEIRS
     for _, place, line in lines():
         yield from (f"{place}: there is no {name}" for name in NAMES.findall(line) if name not in known)
 
@@ -213,14 +214,23 @@ def front_differs():
     yield from (f"{ARCHITECTURE}: says nothing of front/{name}" for name in unsaid)
 
 
+def said_by_front():
+    """The definitions of the model that contracts of bt_front name: the file and the name of each."""
+    crate = TOP / "crates" / "bt_front"
+    for file in (*crate.glob("src/**/*.rt"), *crate.glob("specs/calls/*.antt")):
+        for module, items in OF_FRONT.findall(file.read_text(encoding="utf-8")):
+            yield from ((crate / "specs" / "model" / f"{module}.antt", name) for name in re.findall(r"\w+", items))
+
+
 def strays():
-    """What files of `model` import that isn't of it, of std or made of code; and files that the report doesn't name."""
+    """What files of `model` import that isn't of it, of std or made of code; and files that nothing names: neither the
+    report nor a contract of bt_front."""
     for file in sorted(model()):
         for line in re.findall(r"^\s*((?:pub )?use .*)", file.read_text(encoding="utf-8"), re.MULTILINE):
             if not MAY_IMPORT.match(line) and line not in FOUND:
                 yield f"{file.relative_to(TOP)} has an import that isn't of the model: {line}"
-    for file in sorted(model() - definitions()):
-        yield f"{file.relative_to(TOP)} is of the model, and the report doesn't name it"
+    for file in sorted(model() - definitions() - {file for file, _ in said_by_front()}):
+        yield f"{file.relative_to(TOP)} is of the model, and nothing names it"
 
 
 def words_of(file):
@@ -242,11 +252,11 @@ def imports_of(file):
 
 
 def unnamed():
-    """The definitions of the model that the report doesn't name, directly or through others. A variable counts as the
-    definition of its name, and an operator as a name that nothing has."""
+    """The definitions of the model that neither the report nor a contract of bt_front names, directly or through others.
+    A variable counts as the definition of its name, and an operator as a name that nothing has."""
     words = {file: words_of(file) for file in sorted(model())}
     places = {file: {**{name: (file, name) for name in words[file]}, **imports_of(file)} for file in words}
-    found, open_ones = set(), [(REPORT, "report")]
+    found, open_ones = set(), [(REPORT, "report"), *said_by_front()]
     while open_ones:
         file, name = open_ones.pop()
         if (file, name) not in found:
@@ -255,7 +265,7 @@ def unnamed():
     for file in words:
         for name in words[file]:
             if (file, name) not in found:
-                yield f"{file.relative_to(TOP)}: {name} is of the model, and the report doesn't name it"
+                yield f"{file.relative_to(TOP)}: {name} is of the model, and nothing names it"
 
 
 def said_in(pattern, name):

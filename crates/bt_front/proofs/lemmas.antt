@@ -1,0 +1,2 @@
+-- Lemmas by theme.
+pub mod Given

@@ -1,0 +1,2 @@
+-- Words of contracts inside of the crate.
+pub mod Options

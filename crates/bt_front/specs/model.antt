@@ -1,0 +1,2 @@
+-- What one has to believe: for which words bedtools takes a command line.
+pub mod Words

@@ -1,0 +1,38 @@
+//! What decides who takes a command line of bedtools: for now, its words alone.
+//!
+//! Words:
+//!
+//! - *plan*: what the words mean to Dunekettle, as bt_tool reads them.
+//! - *asked*: what of a plan and its words decides who takes the command line.
+//! - *reason*: why bedtools takes the command line, whatever is in its files.
+//!
+//! An example, which is the test in `example.rt`: two command lines, of which bedtools takes the
+//! second. `strings` makes the words.
+//!
+//! ```text
+//! fn two_command_lines(rt: HostRuntime) -> Result<(), Fail> {
+//!     let words = strings(rt.alloc(), "intersect -a a.bed -b b.bed -sorted")?;
+//!     let a_plan = plan(rt.alloc(), words.as_slice()).ok().ok_or("a plan")?;
+//!     let asked = Asked::of(words.as_slice(), &a_plan)
+//!         .ok()
+//!         .ok_or("no reason")?;
+//!     assert!(rt; asked.is_sorted);
+//!     let words = strings(rt.alloc(), "merge -i a.bed -s")?;
+//!     let a_plan = plan(rt.alloc(), words.as_slice()).ok().ok_or("a plan")?;
+//!     let reason = Asked::of(words.as_slice(), &a_plan)
+//!         .err()
+//!         .ok_or("a reason")?;
+//!     assert_eq!(rt; reason, WordReason::MergeByStrand);
+//!     Ok(())
+//! }
+//! ```
+#![tactic(auto)]
+
+#[cfg(test)]
+mod example;
+#[cfg(test)]
+mod tests;
+mod words;
+
+pub use words::Asked;
+pub use words::word_reason::WordReason;
