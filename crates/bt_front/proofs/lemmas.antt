@@ -1,2 +1,3 @@
 -- Lemmas by theme.
 pub mod Given
+pub mod survey

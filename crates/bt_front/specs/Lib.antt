@@ -1,2 +1,3 @@
+pub mod calls
 pub mod inside
 pub mod model

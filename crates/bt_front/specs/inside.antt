@@ -1,2 +1,3 @@
 -- Words of contracts inside of the crate.
 pub mod Options
+pub mod Watching

@@ -1,2 +1,3 @@
 -- What one has to believe: for which words bedtools takes a command line.
 pub mod Words
+pub mod Odd

@@ -30,9 +30,12 @@
 
 #[cfg(test)]
 mod example;
+mod survey;
 #[cfg(test)]
 mod tests;
 mod words;
 
+pub use survey::chromosomes::{Chromosomes, Extent};
+pub use survey::oddity::{OddLine, Oddity};
 pub use words::Asked;
 pub use words::word_reason::WordReason;

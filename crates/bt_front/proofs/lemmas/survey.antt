@@ -1,0 +1,11 @@
+pub mod ChromosomeLemmas
+pub mod LineLemmas
+pub mod NameLemmas
+pub mod OddLemmas
+pub mod QuietLemmas
+pub mod RunLemmas
+pub mod SpecialLemmas
+pub mod StandLemmas
+pub mod TestLemmas
+pub mod WatchLaws
+pub mod WindowLemmas

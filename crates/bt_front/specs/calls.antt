@@ -1,0 +1,3 @@
+-- What calls do, as contracts say it.
+pub mod Bytes
+pub mod Chromosomes

@@ -1,0 +1,33 @@
+//! Lines that bedtools reads otherwise.
+
+/// What bedtools reads otherwise in a line.
+#[derive(Clone, Copy, Debug, PartialEq, Eq)]
+pub enum Oddity {
+    /// The line is blank: bedtools ends there, doesn't merge across it, or refuses it.
+    Blank,
+    /// It has two carriage returns one after the other, of which bedtools leaves out both.
+    DoubleReturn,
+    /// It has a NUL, after which bedtools leaves out the rest of the column.
+    Nul,
+    /// It has more than 1,023 bytes, after which bedtools cuts it.
+    Long,
+    /// It begins as the first line of VCF, so that bedtools reads the text as VCF.
+    Vcf,
+    /// The text begins with a byte order mark, which bedtools refuses.
+    ByteOrderMark,
+    /// The text begins as a gzip file.
+    Gzip,
+    /// Its chromosome's name is one that bedtools passes over, as a header line's first word.
+    HeaderName,
+    /// Its end is above 536,870,912, past the last bin of bedtools.
+    FarEnd,
+}
+
+/// A line that bedtools reads otherwise.
+#[derive(Clone, Copy, Debug, PartialEq, Eq)]
+pub struct OddLine {
+    /// Its number, counted from 1.
+    pub line: u64,
+    /// One of the things that are odd in it.
+    pub oddity: Oddity,
+}
