@@ -93,3 +93,26 @@ impl Chromosomes {
         }
     }
 }
+
+#[cfg(test)]
+mod tests {
+    use super::*;
+    use std::process::Abort;
+    use std::test::Fail;
+
+    #[test]
+    fn a_chromosome_is_widened(rt: HostRuntime) -> Result<(), Fail> {
+        let mut found = Chromosomes::new(rt.alloc());
+        found.add(rt.alloc(), b"chr2", Extent { start: 5, stop: 9 })?;
+        found.widen_last(8);
+        found.widen_last(30);
+        assert_eq!(rt; found.count(), 1);
+        assert_eq!(rt; found.place(b"chr2"), Some(0));
+        assert_eq!(rt; found.place(b"chr1"), None);
+        if found.count() == 1 {
+            assert_eq!(rt; found.name(0), b"chr2".as_slice());
+            assert_eq!(rt; found.extent(0), Extent { start: 5, stop: 30 });
+        }
+        Ok(())
+    }
+}
