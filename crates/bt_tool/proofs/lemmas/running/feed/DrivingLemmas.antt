@@ -231,7 +231,7 @@ module _ {S A State : Type 0} {written : Written A} {Taken : List A → Type 0} 
       grows = grows_both out.took grown.took finished.took fed.took.grows goes.took;
       served = λ e. cc;
       near = near_end (Some fault) (λ stops. stops.1 (ap Some is));
-      named = λ told e. inr (inl (sym (some_is fault told e) ∙ is, sink));
+      named = λ told e. inr (inl (sym (some_is fault told e) ∙ is, sink.0, sink.1));
     }
 
 -- Lemmas on writing the alignments of an input, line by line.

@@ -350,8 +350,11 @@ module _ {A B X Y U V : Type 0} {join : JoinDef X Y} {pair : Pair A B X Y U V} {
   first_named : (past : List (Member X)) (other : FaultValue) → HasFaultBehind pair.source_a pair.first join.first_kinds past other first → TellsInput pair.source_a join.first_kinds First one_before one_after other
   first_named past other fails = grind arith
 
+  second_cause : (past : List (Member Y)) (other : FaultValue) → HasFaultBehind pair.source_b pair.second join.second_kinds past other second → TellsInput pair.source_b join.second_kinds Second two_before two_after other
+  second_cause past other fails = grind arith
+
   second_named : (past : List (Member Y)) (other : FaultValue) → SecondFails join pair out w.wrote.ended past second other → TellsInput pair.source_b join.second_kinds Second two_before two_after other
-  second_named past other fails = grind arith
+  second_named past other fails = second_cause past other fails.cause
 
   abbrev Because : Type 0
   Because = Why join pair out w.written w.bytes w.wrote.given w.wrote.ended first second fault grown
@@ -376,7 +379,7 @@ module _ {A B X Y U V : Type 0} {join : JoinDef X Y} {pair : Pair A B X Y U V} {
   named_by : (told : FaultValue) → fault ≡ Some told → Because → TellsBoth told ⊎ TellsDevice grown.sink_has_failed grown.sink_last_failed told
   named_by told e (inl (end, puts, works)) = inl (tells_by told e end)
   named_by told e (inr (inl ran)) = inr (inr (some_is told no_memory (sym e ∙ ran.0)))
-  named_by told e (inr (inr cut)) = inr (inl (some_is told write_failed (sym e ∙ cut.0), cut.1.sink_failed))
+  named_by told e (inr (inr cut)) = inr (inl (some_is told write_failed (sym e ∙ cut.0), cut.1.sink_failed.0, cut.1.sink_failed.1))
 
   whole_by : (one two : Handed) (before : List ℕ) → CameOne fault one → CameTwo fault two → out.put ≡ Some before
       → fault ≢ Some write_failed → fault ≢ Some no_memory → Because → IsReported (met_report (met_by join (good_one one) (good_two two))) before fault grown

@@ -18,6 +18,10 @@ use Rattle.bt_lines.proofs.lemmas.reader.block.ReadsLemmas.{hands_none, hands_bo
 use Rattle.bt_tool.specs.inside.SweepLoop.{ChecksUpTo}
 use Rattle.bt_tool.proofs.lemmas.running.feed.WritingLemmas.{up_to}
 
+-- nothing is ahead if nothing is buffered
+ahead_none : {S A State : Type 0} (reader : MemberReader S A State) → reader.buffered ≡ [] → option_to_list (item_ahead reader) ≡ []
+ahead_none reader none = rw none refl
+
 -- a reader that had consumed some members consumed more of them, and read nothing
 pub record TakesFurther {S A State : Type 0} (device : Source S)
     (old : MemberReader S A State) (past more : List (Member A))
@@ -330,12 +334,26 @@ module _ {A B X Y U V : Type 0} {join : JoinDef X Y} {pair : Pair A B X Y U V} {
     pub settles_ended : IsKnown pair → SettlesPair join stage.written s.bytes stage.taken false
     settles_ended known = search rules
 
+    none_ahead : option_to_list (item_ahead second_now) ≡ []
+    none_ahead = ahead_none second_now over.ends.none_buffered
+
     -- its end was given
     ends_by : (now : Output) (bytes : List ℕ) → (IsKnown pair → SettlesPair join (given stage) bytes stage.taken true) → HasPut out bytes now
         → ((past : List (Member X)) × (member_items past ≡ given stage)
         × (read : IsReadFor pair.source_a pair.first past past_first first) × (stage.first_ended ≡ true → HasNoMore pair first read.to.count))
         → Comes join pair out (with_second_ended stage) past_first past_second first second_now now
-    ends_by now bytes settles put near = grind (arith, passes_end, append-nil, passes_all)
+    ends_by now bytes settles put near = record {
+      first_passes = s.first_passes;
+      second_passes = passes_end pair.source_b pair.second past_second second s.second_passes second_now over;
+      all_given = append-nil (given stage) ∙ s.all_given;
+      all_taken = s.all_taken;
+      bytes = bytes;
+      settles = λ known. subst (λ (l : List Y). SettlesPair join (given stage) bytes l true) (sym (ap (λ (l : List Y). stage.taken ++ l) none_ahead ∙ append-nil stage.taken)) (settles known);
+      first_all = λ e. (let all = s.first_all e in (all.0, refl, all.2, all.3));
+      second_all = λ e. (passes_all pair.source_b pair.second past_second second s.second_passes second_now over, over.ends.none_buffered, over.ends.told);
+      put = put;
+      near_first = near;
+    }
 
     -- the waiting member was written
     pub ends_waiting : (a : X) → stage.waiting ≡ Some a → (now : Output) → Grown grown (join.bytes a stage.taken) now

@@ -1,5 +1,5 @@
 -- Lemmas on failed reads that are reported: each is of a read that failed in the run, whatever its source did before.
-use Rattle.bt_lines.proofs.Std.{rules, ◌≡◌, ℕ, Option, None, Some, Err, List, [], ap, sym, subst, ◌∙◌, inl, inr, arith, ◌≢◌, MatchResult, Ok, Result, false≢true, option_map, ◌-◌, ◌^◌, ◌++◌, take, IfSome}
+use Rattle.bt_lines.proofs.Std.{rules, refl, suc, ◌≡◌, ℕ, Option, None, Some, Err, List, [], ap, sym, subst, ◌∙◌, inl, inr, arith, ◌≢◌, MatchResult, Ok, Result, false≢true, option_map, ◌-◌, ◌^◌, ◌++◌, take, IfSome}
 use Rattle.bt_lines.specs.declared.device.Source.{Ghosts as Source}
 use Rattle.bt_lines.proofs.lemmas.reader.block.ReadsLemmas.{memory_no_read, some_is, unread_then}
 use Rattle.bt_lines.specs.model.Fault.{FaultValue, read_failed}
@@ -15,8 +15,8 @@ use Rattle.bt_lines.specs.declared.fault.Kind.{Kind}
 use Rattle.bt_lines.specs.declared.fault.Kind.TheVariants.{ReadFailed}
 use Rattle.bt_lines.specs.declared.reader.line.Line.{Line}
 use Rattle.bt_lines.specs.declared.reader.line_reader.LineReader.{LineReader}
-use Rattle.bt_bed.specs.model.Good.{Format}
-use Rattle.bt_bed.specs.model.BedLine.{IsBedKind}
+use Rattle.bt_bed.specs.model.Good.{Format, Member}
+use Rattle.bt_bed.specs.model.BedLine.{IsBedKind, fault_at_line}
 use Rattle.bt_bed.specs.model.Order.{Order}
 use Rattle.bt_bed.specs.calls.Reading.{MemberReader, TellsOwnFailure}
 use Rattle.bt_bed.specs.declared.order.genome.Genome.{Genome as GenomeTable}
@@ -28,8 +28,8 @@ use Rattle.bt_tool.specs.model.Report.{behaviour_of, chromosomes_of}
 use Rattle.bt_tool.specs.calls.Inputs.{OfBoth, Reads}
 use Rattle.bt_tool.specs.calls.Run.{RunsAlone, RunsBy, AnswersNoRead, IsOwnFailure, ReadsServe, TellsNoRead, TellsOwnReads, KnowsChromosomes, LacksChromosomes}
 use Rattle.bt_tool.proofs.lemmas.running.feed.WritingLemmas.{behaves_alone}
-use Rattle.bt_tool.specs.inside.Feed.{FeedsUpTo, Flushes, IsKeptBelow, IsOwnFault, KeepsOwnFault}
-use Rattle.bt_tool.specs.inside.Pair.{JoinDef, Pair, PairEnds}
+use Rattle.bt_tool.specs.inside.Feed.{HasFaultBehind, FeedsUpTo, Flushes, IsKeptBelow, IsOwnFault, KeepsOwnFault}
+use Rattle.bt_tool.specs.inside.Pair.{InputsEnd, JoinDef, Pair, PairEnds, Why}
 use Rattle.bt_tool.specs.model.Written.{IsSweptKind}
 use Rattle.bt_tool.specs.declared.planning.plan_type.Command.{Command}
 use Rattle.bt_tool.proofs.lemmas.running.members.CursorLemmas.{BeginsAt, some_of, cut_text, handed_all, handed_part}
@@ -113,13 +113,83 @@ module _ {S A State : Type 0} (device : Source S) {format : Format A State} {fir
       → FeedsUpTo settled Kinds Sorted device old out fault new grown → TellsOwnReads ⊥ (IsOwnFailure device.is_read first last) ⊥ (Some fault)
   feeds_own Kinds never Sorted fed = grind arith
 
+-- the fault that lies behind the members of a reader
+same_input : (one other : Input) (m n : ℕ) → read_failed one m ≡ read_failed other n → one ≡ other
+same_input one other m n e = grind arith
+
+behind_own : {S A State : Type 0} (device : Source S) {format : Format A State} {which : Input} {before after : S} {old new : MemberReader S A State}
+    → BeginsAt device.left format which before old → source_of new.below ≡ after → (Kinds : Kind → Type 0) → (Kinds ReadFailed → ⊥) → KeepsOwnFault device.is_read old.below new
+    → (past : List (Member A)) (other : FaultValue) → HasFaultBehind device old Kinds past other new
+    → (input : Input) (line : ℕ) → other ≡ read_failed input line → (input ≡ which) × IsOwnFailure device.is_read before after
+behind_own device begins ended Kinds never own past other (inl wrong) input line e =
+    absurd (never (subst Kinds (ap (λ (f : FaultValue). f.kind) (sym wrong.is ∙ e)) wrong.of_kind))
+behind_own device {before = before} {after = after} {old = old} {new = new} begins ended Kinds never own past other (inr unread) input line e = (
+  same_input input (input_of old.below) line (suc (lines_given new.below)) (sym e ∙ unread.is) ∙ begins.input_is,
+  own_failure_of device.is_read before after old.below new.below begins.source ended begins.bytes (own input line (unread.kept ∙ ap Some e)),
+)
+
+module _ {F S : Type 0} {fault : Option FaultValue} where
+  own_of_none : ((input : Input) (line : ℕ) → fault ≡ Some (read_failed input line) → ⊥) → TellsOwnReads ⊥ F S fault
+  own_of_none never = record {
+    genome_file = λ line e. never FromGenome line e;
+    first_input = λ line e. absurd (never First line e);
+    second_input = λ line e. absurd (never Second line e);
+  }
+
+  module _ (other : FaultValue) (is : fault ≡ Some other) where
+    own_of_first : ((input : Input) (line : ℕ) → other ≡ read_failed input line → (input ≡ First) × F) → TellsOwnReads ⊥ F S fault
+    own_of_first own = record {
+      genome_file = λ line e. (let apart : FromGenome ≡ First = (own FromGenome line (some_is other (read_failed FromGenome line) (sym is ∙ e))).0 in cc);
+      first_input = λ line e. (own First line (some_is other (read_failed First line) (sym is ∙ e))).1;
+      second_input = λ line e. (let apart : Second ≡ First = (own Second line (some_is other (read_failed Second line) (sym is ∙ e))).0 in cc);
+    }
+
+    own_of_second : ((input : Input) (line : ℕ) → other ≡ read_failed input line → (input ≡ Second) × S) → TellsOwnReads ⊥ F S fault
+    own_of_second own = record {
+      genome_file = λ line e. (let apart : FromGenome ≡ Second = (own FromGenome line (some_is other (read_failed FromGenome line) (sym is ∙ e))).0 in cc);
+      first_input = λ line e. (let apart : First ≡ Second = (own First line (some_is other (read_failed First line) (sym is ∙ e))).0 in cc);
+      second_input = λ line e. (own Second line (some_is other (read_failed Second line) (sym is ∙ e))).1;
+    }
+
 -- a run over two readers ended
 module _ {A B X Y U V : Type 0} {join : JoinDef X Y} {pair : Pair A B X Y U V} {out : Output} {first_format : Format X U} {second_format : Format Y V}
     {one_before : A} {two_before : B} (begins : BeginsAt pair.source_a.left first_format First one_before pair.first) (begins_second : BeginsAt pair.source_b.left second_format Second two_before pair.second)
     {first : MemberReader A X U} {second : MemberReader B Y V} {one_after : A} {two_after : B} (ended : source_of first.below ≡ one_after) (ended_second : source_of second.below ≡ two_after) {fault : Option FaultValue} {grown : Output}
     (w : PairEnds join pair out fault first second grown) (no_first : join.first_kinds ReadFailed → ⊥) (no_second : join.second_kinds ReadFailed → ⊥) (own : KeepsOwnFault pair.source_a.is_read pair.first.below first) (own_second : KeepsOwnFault pair.source_b.is_read pair.second.below second) where
   pub both_own : TellsOwnReads ⊥ (IsOwnFailure pair.source_a.is_read one_before one_after) (IsOwnFailure pair.source_b.is_read two_before two_after) fault
-  both_own = grind arith
+  both_own = own_by w.why
+    where
+      Tells : Type 0
+      Tells = TellsOwnReads ⊥ (IsOwnFailure pair.source_a.is_read one_before one_after) (IsOwnFailure pair.source_b.is_read two_before two_after) fault
+
+      first_own : (past : List (Member X)) (other : FaultValue) → fault ≡ Some other → HasFaultBehind pair.source_a pair.first join.first_kinds past other first → Tells
+      first_own past other is fails = own_of_first other is (behind_own pair.source_a begins ended join.first_kinds no_first own past other fails)
+
+      second_own : (past : List (Member Y)) (other : FaultValue) → fault ≡ Some other → HasFaultBehind pair.source_b pair.second join.second_kinds past other second → Tells
+      second_own past other is fails = own_of_second other is (behind_own pair.source_b begins_second ended_second join.second_kinds no_second own_second past other fails)
+
+      of_kind : (other : FaultValue) (line : ℕ) (kind : Kind) → fault ≡ Some other → other ≡ fault_at_line Second line kind → join.second_kinds kind → Tells
+      of_kind other line kind is at of = own_of_none (λ input n e. no_second (subst join.second_kinds (ap (λ (f : FaultValue). f.kind) (sym at ∙ some_is other (read_failed input n) (sym is ∙ e))) of))
+
+      ended_own : InputsEnd join pair out w.written w.wrote.given w.wrote.ended first second fault → Tells
+      ended_own (inl stops) = first_own stops.2.past stops.0 stops.1 stops.2.cause
+      ended_own (inr (inl stops)) = second_own stops.2.past stops.0 stops.1 stops.2.fails.cause
+      ended_own (inr (inr (inr stops))) = of_kind stops.0 stops.2.m.line stops.2.kind stops.1 stops.2.is stops.2.of_kind
+      ended_own (inr (inr (inl stops))) =
+          elim stops.rest [
+            | inl end ↦ own_of_none (λ input n e. (let apart : None ≡ Some (read_failed input n) = sym end.0 ∙ e in cc))
+            | inr others ↦ elim others [
+              | inl other ↦ second_own stops.past_second other.0 other.1 other.2.cause
+              | inr other ↦ of_kind other.0 other.2.line other.2.kind other.1 other.2.is other.2.of_kind
+            ]
+          ]
+
+      own_by : Why join pair out w.written w.bytes w.wrote.given w.wrote.ended first second fault grown → Tells
+      own_by (inl (end, puts, works)) = ended_own end
+      own_by (inr (inl ran)) = own_of_none (λ input n e. memory_no_read input n (some_is no_memory (read_failed input n) (sym ran.0 ∙ e)))
+      own_by (inr (inr cut)) =
+          subst (λ (f : Option FaultValue). TellsOwnReads ⊥ (IsOwnFailure pair.source_a.is_read one_before one_after) (IsOwnFailure pair.source_b.is_read two_before two_after) f) (sym cut.0)
+          (tells_write ⊥ (IsOwnFailure pair.source_a.is_read one_before one_after) (IsOwnFailure pair.source_b.is_read two_before two_after) write_failed refl)
 
 -- nor hides it one, unless a write failed
 pub flushed_no_read : (old new : Output) (fault answer : Option FaultValue) → Flushes old fault answer new → answer ≢ Some write_failed → TellsNoRead answer → TellsNoRead fault
