@@ -37,6 +37,7 @@ CRATES = [
     Crate("bt_bed", "write_bed, write_cut, to_rec, Genome::read"),
     Crate("bt_runs", "Merge, Complement"),
     Crate("bt_sweep", "Held"),
+    Crate("bt_seq", "Mask"),
 ]
 
 
