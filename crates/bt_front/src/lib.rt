@@ -1,10 +1,13 @@
-//! What decides who takes a command line of bedtools: for now, its words alone.
+//! What decides who takes a command line of bedtools: its words, and what a survey shows of its
+//! texts. Of the survey there are parts, which nothing calls yet: what bytes show, names of header
+//! lines, and the chromosomes.
 //!
 //! Words:
 //!
 //! - *plan*: what the words mean to Dunekettle, as bt_tool reads them.
 //! - *asked*: what of a plan and its words decides who takes the command line.
 //! - *reason*: why bedtools takes the command line, whatever is in its files.
+//! - *odd line*: one that bedtools reads otherwise than Dunekettle, or takes for the end of the text.
 //!
 //! An example, which is the test in `example.rt`: two command lines, of which bedtools takes the
 //! second. `strings` makes the words.
