@@ -1,6 +1,6 @@
-"""The changes of definitions.edits fit the definitions, and the rows of definitions.txt are of such changes.
+"""The changes of definitions.edits fit the definitions, and definitions.txt has a row for each.
 
-`make definitions` tries them, which takes half an hour of processor, and writes a row for each.
+`make definitions` tries them, which takes half an hour of processor, and writes the rows.
 """
 
 import tempfile
@@ -38,8 +38,7 @@ class Rows(Counted):
     def test_rows_are_those_of_the_edits(self):
         lines = definitions.TABLE.read_text(encoding="utf-8").splitlines()[1:]
         self.counts["rows"] = len(lines)
-        names = [line.split(" | ")[2] for line in lines]
-        self.assertEqual(names, [name for name in definitions.edits() if name in names])
+        self.assertEqual([line.split(" | ")[2] for line in lines], list(definitions.edits()))
 
     def test_each_wrong_one_breaks_a_value(self):
         lines = definitions.TABLE.read_text(encoding="utf-8").splitlines()[1:]
