@@ -31,6 +31,8 @@ BY_INPUT = ("a.bed intersect-F.sh -a INPUT -b b.bed -F 0.1 -v", "b.bed intersect
             "a.bed merge-c.sh -i INPUT -c 4 -o distinct", "genome.txt genomecov-ends.sh -i a.bed -g INPUT -5 -bg", "genome.txt genomecov-split.sh -i a.bed -g INPUT -bg",
             "genome.txt by-genome.sh INPUT", "a.bed header.sh merge -i INPUT", "b.bed intersect-loj.sh -a a.bed -b INPUT -loj", "b.bed subtract-F.sh -a a.bed -b INPUT -F 0.5",
             "b.bed subtract-N.sh -a a.bed -b INPUT -f 0.3", "a.bed merge-s-c.sh -i INPUT", "a.bed with-strand.sh INPUT")
+# Further cases: what cat is given, and what sed is given with variables of others.
+FURTHER = ("intersect-files.sh -a a.bed -b b.bed -v", "intersect-F.sh -a a.bed -b b.bed -F 0.1 -wa -wb")
 # Variables that others have for other things.
 EXPORTED = {"POSIXLY_CORRECT": "1", "CDPATH": "/", "GLOBIGNORE": "*", "AWKPATH": "/nowhere", "BASHOPTS": "nocasematch:nullglob", "LC_ALL": "C.UTF-8", "IFS": "t",
             **dict.fromkeys(("folder", "file", "files", "name", "names", "words", "rule", "part", "path", "before", "number", "opt_s", "opt_f", "TAB", "here"), "x")}
@@ -71,7 +73,7 @@ def features(count, name, step):
 
 def write_files(folder):
     """Writes each file that a case names, and gives their names."""
-    texts = {"a.bed": features(30, "a", 50), "b.bed": features(20, "b", 70), "c.bed": features(10, "c", 90), "chr1.bed": "".join(features(30, "a", 50).splitlines(True)[:30]),
+    texts = {"a.bed": "#made\n" + features(30, "a", 50), "b.bed": features(20, "b", 70), "c.bed": features(10, "c", 90), "chr1.bed": "".join(features(30, "a", 50).splitlines(True)[:30]),
              "genome.txt": "".join(f"{chrom}\t{size}\n" for chrom, size in SIZES.items()),
              "genes.gff": "".join(f"{chrom}\tx\texon\t{90 * n + 1}\t{90 * n + 50}\t.\t+\t.\tID={n}\n" for chrom in SIZES for n in range(9)),
              "calls.vcf": "".join(f"{chrom}\t{90 * n + 1}\t.\tA\tC\t.\tPASS\t.\n" for chrom in SIZES for n in range(9))}
@@ -98,6 +100,7 @@ def cases_of(recipes):
         if names - seen or "GENOME=" in words or "-filenames" in words:
             seen |= names
             yield words
+    yield from FURTHER
     for script in sorted(recipes.glob("*.sh")):
         if script.name not in seen | {"functions.sh"} and has_samtools:
             raise ValueError(f"no case of {script.name} in recipes.tsv")
@@ -163,7 +166,7 @@ def try_folders_of_recipes(recipes, top, count):
         (fakes / name).chmod(0o755)
     words = ["setsid", "--wait", recipes / "intersect-F.sh", "-a", "a.bed", "-b", "b.bed", "-F", "0.1", "-c"]
     wanted = run(words, folder)
-    count.expect("intersect-F.sh writes something", (True, 0, ""), (wanted[0] != b"", *wanted[1:]))
+    count.expect("intersect-F.sh finds hits", (True, 0, ""), (b"\t1\n" in wanted[0], *wanted[1:]))
     for name in ("two words", "-x", "line\nfeed", "back\\tslash", "*", "a=b", "$(touch hit)"):
         (folder / name).mkdir()
         count.expect(f"TMPDIR={name}", (wanted, []), (run(words, folder, TMPDIR=name), listed(folder / name)))
@@ -215,7 +218,7 @@ def try_cuts(scripts, top, count):
     for script in scripts:
         lines = script.read_text(encoding="utf-8").splitlines(True)
         begun = next(number for number, line in enumerate(lines, 1) if line.startswith("{"))
-        count.expect(f"the group of {script.name} begins late", True, begun <= 3)
+        count.expect(f"the group of {script.name} begins late, or something is run behind it", (True, ["exit\n", "}\n"]), (begun <= 3, lines[-2:]))
         for number in range(begun, len(lines)):
             made = folder / script.name
             made.write_text("".join(lines[:number]), encoding="utf-8")
@@ -281,7 +284,7 @@ def try_links_of_shards(shards, top, count):
     (folder / "shards" / "1" / "2").mkdir(parents=True)
     part = Path(shutil.copy(folder / "reads.sam", folder / "shards" / "1" / "2"))
     count.expect("an input where its part would be", (b"", 1), run([shards / "shard.sh", "1/2", "bamtobed", "-i", part.relative_to(folder)], folder)[:2])
-    count.expect("what others have", ("victim", [], part.read_bytes()), (victim.read_text(encoding="utf-8"), [name for name in listed(folder.parent / "other") if name != "2"], (folder / "reads.sam").read_bytes()))
+    count.expect("what others have", (b"victim", [], part.read_bytes()), (victim.read_bytes(), [name for name in listed(folder.parent / "other") if name != "2"], (folder / "reads.sam").read_bytes()))
 
 
 def try_chromosomes(shards, top, count):
