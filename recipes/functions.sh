@@ -23,14 +23,20 @@ from() {
     if [ "$file" = - ]; then "$@"; else "$@" < "$file"; fi
 }
 
-# twice FILE: fails unless it can be read twice, as no pipe can: records would be lost
-twice() { [ -f "$1" ] || fail "$1 is read twice, and is no file: write it to one"; }
+# is_input NAME: whether it is a name of standard input, which in a pipe is another one
+is_input() { case $1 in - | /dev/stdin | /dev/fd/0 | /proc/self/fd/0) ;; *) return 1 ;; esac; }
 
-# A folder of this run, which is removed at its end; awk finds it in ENVIRON, where a backslash is one.
+# twice FILE: fails unless it can be read twice, as no pipe can: records would be lost
+twice() {
+    if is_input "$1" || [ ! -f "$1" ]; then fail "$1 is read twice, and is no file: write it to one"; fi
+}
+
+# A folder of this run, which is removed at its end; awk finds it in ENVIRON, where a backslash is one. It has its name
+# before it is made: mktemp may be killed in between. What still runs after a signal may write into it once more.
 work() {
-    export folder=
-    trap '[ -z "$folder" ] || rm -rf "$folder"' EXIT
-    folder=$(mktemp -d)
+    export folder=${TMPDIR:-/tmp}/dunekettle-$$-$RANDOM$RANDOM
+    trap 'rm -rf -- "$folder" 2> /dev/null || { sleep 0.2; rm -rf -- "$folder"; }' EXIT
+    mkdir -m 700 -- "$folder" || { trap - EXIT; exit 1; }
 }
 
 # read_words KNOWN WORD..: the options of a command line, as variables opt_X; those in KNOWN that end with : have a value.
@@ -44,12 +50,14 @@ read_words() {
         shift
         case $word:$known in
         -*:*" $word: "*) [ $# -gt 0 ] || fail "$word needs a value"
+            ! is_input "$1" || set -- - "${@:2}"
             declare -g "opt_${word#-}=$1"
             [ "$word" != -b ] || files+=("$1")
             shift ;;
         -*:*" $word "*) declare -g "opt_${word#-}=1" ;;
         -*) fail "unknown option: $word" ;;
         *' .. '*) [ ${#files[@]} -gt 0 ] || fail "unknown word: $word"
+            ! is_input "$word" || word=-
             files+=("$word") ;;
         *) fail "unknown word: $word" ;;
         esac
@@ -84,7 +92,7 @@ lines() { cut -f 7- | tr '\001' '\t'; }
 
 # by_genome FILE: standard input in the order of a genome file
 by_genome() {
-    [ "$1" != - ] || fail 'standard input is what is sorted'
+    ! is_input "$1" || fail 'standard input is what is sorted'
     genome=$1 awk -F'\t' 'BEGIN {
         while ((got = (getline < ENVIRON["genome"])) > 0) rank[$1] = ++n
         if (got < 0) { print "no genome file: " ENVIRON["genome"] > "/dev/stderr"; exit 2 } }
@@ -123,7 +131,8 @@ n_for_d() { awk -F'\t' -v OFS='\t' '{ gsub(/D/, "N", $6); print }'; }
 begin() {
     set -euo pipefail
     export LC_ALL=C
-    unset "${!opt_@}"
+    # sed and awk read some of these programs otherwise with it.
+    unset POSIXLY_CORRECT "${!opt_@}"
     # Without words a script shows how it is called: its own head.
     if [ $# = 0 ] || [ "$1" = --help ]; then
         sed -n '4,12{/^# /!q; s/^# //p}' < "$here" >&2

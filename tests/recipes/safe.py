@@ -25,6 +25,17 @@ TOP = Path(__file__).resolve().parents[2]
 # What a file's name begins with, and what a chromosome's name may be. Each that is run leaves a file named hit.
 NAMES = ("rep=1", "-x", "--help", "two words", "line\nfeed", " around ", "*", "[a-z]?", "$(touch hit)", "`touch hit`", ";touch hit", "|touch hit", "'quote'", '"quotes"',
          "back\\tslash", "~", "#number", "%s", "{brace}", "{{x}}", "&", "!", "é", "$HOME", "a,b")
+# Lines that read the first file by a name of standard input, in whose place a pipe has another one.
+BY_INPUT = ("a.bed intersect-F.sh -a INPUT -b b.bed -F 0.1 -v", "b.bed intersect-F.sh -a a.bed -b INPUT -F 0.1 -v", "a.bed intersect-opposite.sh -a INPUT -b b.bed",
+            "a.bed intersect-files.sh -a INPUT -b b.bed c.bed -v", "a.bed intersect-files.sh -a INPUT -b b.bed c.bed -wa -wb", "b.bed intersect-files.sh -a a.bed -b INPUT c.bed -c",
+            "a.bed merge-c.sh -i INPUT -c 4 -o distinct", "genome.txt genomecov-ends.sh -i a.bed -g INPUT -5 -bg", "genome.txt genomecov-split.sh -i a.bed -g INPUT -bg",
+            "genome.txt by-genome.sh INPUT", "a.bed header.sh merge -i INPUT", "b.bed intersect-loj.sh -a a.bed -b INPUT -loj", "b.bed subtract-F.sh -a a.bed -b INPUT -F 0.5",
+            "b.bed subtract-N.sh -a a.bed -b INPUT -f 0.3", "a.bed merge-s-c.sh -i INPUT", "a.bed with-strand.sh INPUT")
+# Further cases: what cat is given, and what sed is given with variables of others.
+FURTHER = ("intersect-files.sh -a a.bed -b b.bed -v", "intersect-F.sh -a a.bed -b b.bed -F 0.1 -wa -wb")
+# Variables that others have for other things.
+EXPORTED = {"POSIXLY_CORRECT": "1", "CDPATH": "/", "GLOBIGNORE": "*", "AWKPATH": "/nowhere", "BASHOPTS": "nocasematch:nullglob", "LC_ALL": "C.UTF-8", "IFS": "t",
+            **dict.fromkeys(("folder", "file", "files", "name", "names", "words", "rule", "part", "path", "before", "number", "opt_s", "opt_f", "TAB", "here"), "x")}
 OUTSIDE = (".", "..", "../..", "../../out", "a/..", "a/../..", "a/./b", "/a", "a/", "a//b")
 # The files that a case of recipes.tsv names.
 FILE = re.compile(r"(?<![\w./-])(?:[abc]\.bed(?:\.gz)?|chr1\.bed|genome\.txt|reads\.bam|mapped\.bam|genes\.gff|calls\.vcf)(?![\w.])")
@@ -48,7 +59,7 @@ class Count:
             print(f"{name}\n  wanted {wanted!r:.500}\n  found  {found!r:.500}")
 
 
-def run(words, place, path=(), **more):
+def run(words, place, path=(), /, **more):
     """Runs words, and gives output, status and what was said."""
     env = {**os.environ, "PATH": os.pathsep.join([*map(str, path), os.environ["PATH"]]), **more}
     done = subprocess.run([*map(str, words)], cwd=place, env=env, stdin=subprocess.DEVNULL, stdout=subprocess.PIPE, stderr=subprocess.PIPE, check=False)
@@ -62,7 +73,7 @@ def features(count, name, step):
 
 def write_files(folder):
     """Writes each file that a case names, and gives their names."""
-    texts = {"a.bed": features(30, "a", 50), "b.bed": features(20, "b", 70), "c.bed": features(10, "c", 90), "chr1.bed": "".join(features(30, "a", 50).splitlines(True)[:30]),
+    texts = {"a.bed": "#made\n" + features(30, "a", 50), "b.bed": features(20, "b", 70), "c.bed": features(10, "c", 90), "chr1.bed": "".join(features(30, "a", 50).splitlines(True)[:30]),
              "genome.txt": "".join(f"{chrom}\t{size}\n" for chrom, size in SIZES.items()),
              "genes.gff": "".join(f"{chrom}\tx\texon\t{90 * n + 1}\t{90 * n + 50}\t.\t+\t.\tID={n}\n" for chrom in SIZES for n in range(9)),
              "calls.vcf": "".join(f"{chrom}\t{90 * n + 1}\t.\tA\tC\t.\tPASS\t.\n" for chrom in SIZES for n in range(9))}
@@ -89,6 +100,7 @@ def cases_of(recipes):
         if names - seen or "GENOME=" in words or "-filenames" in words:
             seen |= names
             yield words
+    yield from FURTHER
     for script in sorted(recipes.glob("*.sh")):
         if script.name not in seen | {"functions.sh"} and has_samtools:
             raise ValueError(f"no case of {script.name} in recipes.tsv")
@@ -123,6 +135,46 @@ def try_names_of_recipes(recipes, top, count):
             if "hit" in (after := listed(folder)) or after != before:
                 count.expect(f"what {named} leaves", before, after)
                 (folder / "hit").unlink(missing_ok=True)
+
+
+def try_inputs_of_recipes(recipes, top, count):
+    """Standard input by any of its names gives the same as the file, or status 2; and no exported variable gives another answer."""
+    folder = Path(top, "inputs")
+    folder.mkdir()
+    write_files(folder)
+    shutil.copy(folder / "c.bed", folder / "-")
+    for line in BY_INPUT:
+        file, words = line.split(" ", 1)
+        wanted = run(["bash", "-c", words.replace("INPUT", file) + (" < a.bed" if words.startswith("by-") else "")], folder, [recipes])[:2]
+        count.expect(f"{line} writes something", (True, 0), (wanted[0] != b"", wanted[1]))
+        for name in ("-", "/dev/stdin", "/dev/fd/0", "/proc/self/fd/0"):
+            output, status, said = run(["bash", "-c", f"{words.replace('INPUT', name)} < {file}"], folder, [recipes])
+            count.expect(f"{line}, by {name}: {said}", True, (output, status) in (wanted, (b"", 2)))
+    for words in cases_of(recipes):
+        plain, odd = (run(["bash", "-o", "pipefail", "-c", words], folder, [recipes], **more)[:2] for more in ({}, EXPORTED))
+        count.expect(f"{words} with exported variables", plain, odd)
+
+
+def try_folders_of_recipes(recipes, top, count):
+    """A folder in TMPDIR with any name is used and removed, also if a signal ends all just when it is made."""
+    folder, fakes = Path(top, "folders"), Path(top, "fakes")
+    folder.mkdir()
+    fakes.mkdir()
+    write_files(folder)
+    for name in ("mkdir", "mktemp"):
+        (fakes / name).write_text(f"#!/bin/sh\n{shutil.which(name)} \"$@\"\ntrap '' TERM HUP\nkill -s \"$SENT\" 0\nsleep 0.1\n", encoding="utf-8")
+        (fakes / name).chmod(0o755)
+    words = ["setsid", "--wait", recipes / "intersect-F.sh", "-a", "a.bed", "-b", "b.bed", "-F", "0.1", "-c"]
+    wanted = run(words, folder)
+    count.expect("intersect-F.sh finds hits", (True, 0, ""), (b"\t1\n" in wanted[0], *wanted[1:]))
+    for name in ("two words", "-x", "line\nfeed", "back\\tslash", "*", "a=b", "$(touch hit)"):
+        (folder / name).mkdir()
+        count.expect(f"TMPDIR={name}", (wanted, []), (run(words, folder, TMPDIR=name), listed(folder / name)))
+        for sent in ("TERM", "HUP"):
+            output, status, _ = run(words, folder, [fakes], TMPDIR=name, SENT=sent)
+            count.expect(f"TMPDIR={name}, after {sent}", (b"", True, []), (output, status != 0, listed(folder / name)))
+    output, status, _ = run(words, folder, TMPDIR="nowhere")
+    count.expect("TMPDIR=nowhere", (b"", True), (output, status != 0))
 
 
 def try_calls_of_recipes(recipes, top, count):
@@ -166,7 +218,7 @@ def try_cuts(scripts, top, count):
     for script in scripts:
         lines = script.read_text(encoding="utf-8").splitlines(True)
         begun = next(number for number, line in enumerate(lines, 1) if line.startswith("{"))
-        count.expect(f"the group of {script.name} begins late", True, begun <= 3)
+        count.expect(f"the group of {script.name} begins late, or something is run behind it", (True, ["exit\n", "}\n"]), (begun <= 3, lines[-2:]))
         for number in range(begun, len(lines)):
             made = folder / script.name
             made.write_text("".join(lines[:number]), encoding="utf-8")
@@ -195,9 +247,44 @@ def try_files_of_shards(shards, top, count):
                 count.expect(f"shard.sh {name} {words} writes something", (True, 0), (wanted[0] != b"", wanted[1]))
                 found = run([shards / "shard.sh", name, *named(words)], folder)
                 count.expect(f"shard.sh {name} {named(words)}", wanted, found)
+                if prefix == NAMES[0]:
+                    found = run([shards / "shard.sh", name, *named(words)], folder, **EXPORTED)
+                    count.expect(f"shard.sh {name} {named(words)} with exported variables", wanted, found)
         wanted = run([shards / "shard.sh", "1/2", "bamtobed", "-i", "reads.sam"], Path(top, "plain"))
         count.expect(f"shard.sh 1/2 bamtobed of {prefix}", wanted, run([shards / "shard.sh", "1/2", *named("bamtobed -i reads.sam")], folder))
     count.expect("what was run", False, any("hit" in name and "touch" not in name for name in listed(folder)))
+
+
+def try_links_of_shards(shards, top, count):
+    """What another user has put where a script writes is removed, and not written to; an input is no part of its own."""
+    folder, victim = Path(top, "links", "in"), Path(top, "links", "victim")
+    (folder / "shards" / "chr1").mkdir(parents=True)
+    for name in ("a.bed", "s.fa", "reads.sam", "genome.txt"):
+        shutil.copy(Path(top, "plain", name), folder)
+    victim.write_text("victim", encoding="utf-8")
+    for name in ("a.bed.part.gz", "a.bed.part.gz.tbi", "a.bed.gz", "a.bed.gz.tbi", "s.fa.part", "s.fa.index", "shards/chr1/a.bed", "shards/chr1/s.fa", "shards/chr1/genome.txt"):
+        (folder / name).symlink_to(victim)
+    count.expect("index.sh where links are", (b"", 0, ""), run([shards / "index.sh", "a.bed", "s.fa"], folder))
+    for words in ("merge -i a.bed.gz", "maskfasta -fi s.fa -bed a.bed.gz", "complement -i a.bed.gz -g genome.txt"):
+        words = ["shard.sh", "chr1", *words.split()]
+        found = run([shards / words[0], *words[1:]], folder)
+        count.expect(f"{words} where links are", run([shards / words[0], *words[1:]], Path(top, "plain")), found)
+    (folder / "a.bed.gz").unlink()
+    (folder / "a.bed.gz").mkdir()
+    count.expect("index.sh where a folder is", (b"", 1, []), (*run([shards / "index.sh", "a.bed"], folder)[:2], listed(folder / "a.bed.gz")))
+    (folder.parent / "other").mkdir()
+    (folder / "shards" / "chr2").symlink_to("../../other")
+    (folder / "shards" / "1").symlink_to("../../other")
+    shutil.copy(Path(top, "plain", "a.bed.gz"), folder / "whole.bed.gz")
+    shutil.copy(Path(top, "plain", "a.bed.gz.tbi"), folder / "whole.bed.gz.tbi")
+    for words in ("chr2 merge -i whole.bed.gz", "1/2 bamtobed -i reads.sam"):
+        output, status, said = run([shards / "shard.sh", *words.split()], folder)
+        count.expect(f"shard.sh {words} behind a link: {said}", (b"", 1, True), (output, status, "a link leads out of the folder shards" in said))
+    (folder / "shards" / "1").unlink()
+    (folder / "shards" / "1" / "2").mkdir(parents=True)
+    part = Path(shutil.copy(folder / "reads.sam", folder / "shards" / "1" / "2"))
+    count.expect("an input where its part would be", (b"", 1), run([shards / "shard.sh", "1/2", "bamtobed", "-i", part.relative_to(folder)], folder)[:2])
+    count.expect("what others have", (b"victim", [], part.read_bytes()), (victim.read_bytes(), [name for name in listed(folder.parent / "other") if name != "2"], (folder / "reads.sam").read_bytes()))
 
 
 def try_chromosomes(shards, top, count):
@@ -217,6 +304,15 @@ def try_chromosomes(shards, top, count):
             output, status, said = run([shards / words[0], *words[1:]], folder)
             count.expect(f"{words} with {place}: {said}", (b"", 1, True), (output, status, "no folder can be named so" in said))
         count.expect(f"what is left of {place}", (before, text), (sorted(Path(top, "outside").rglob("*")), (folder / "a.bed").read_text(encoding="utf-8")))
+    # In the first tabix reads the chromosome a, from its first base to its second.
+    folder = Path(top, "regions")
+    folder.mkdir()
+    (folder / "a.bed").write_text("".join(f"{name}\t{n}\t{n + 5}\n" for name in ("a", "a}:1-2", "b}c}:1") for n in (1, 30)), encoding="utf-8")
+    run([shards / "index.sh", "a.bed"], folder)
+    for words in (["names.sh", "a.bed.gz"], ["shard.sh", "a}:1-2", "merge", "-i", "a.bed.gz"]):
+        output, status, said = run([shards / words[0], *words[1:]], folder)
+        count.expect(f"{words} with a region in a name: {said}", (b"", 1, True), (output, status, "tabix reads a region in this name: a}:1-2" in said))
+    count.expect("shard.sh of a name that has no region", (b"b}c}:1\t1\t6\nb}c}:1\t30\t35\n", 0), run([shards / "shard.sh", "b}c}:1", "merge", "-i", "a.bed.gz"], folder)[:2])
     odd = sorted({name for name in NAMES if "\n" not in name and not name.startswith("#")} | {"a/b", "chr1"}, key=str.encode)
     folder = Path(top, "odd")
     shutil.copytree(shards, folder)
@@ -252,6 +348,7 @@ def try_shards(shards, top, count):
     (folder / "reads.sam").write_text("".join(f"r{n}\t0\tchr1\t{n + 1}\t9\t4M\t*\t0\t0\tACGT\t*\n" for n in range(20)), encoding="utf-8")
     count.expect("index.sh", (b"", 0, ""), run([shards / "index.sh", "a.bed", "b.bed", "s.fa"], folder))
     try_files_of_shards(shards, top, count)
+    try_links_of_shards(shards, top, count)
     try_chromosomes(shards, top, count)
 
 
@@ -266,6 +363,8 @@ def main():
         if what == "recipes":
             try_names_of_recipes(places[0], top, count)
             try_calls_of_recipes(places[0], top, count)
+            try_inputs_of_recipes(places[0], top, count)
+            try_folders_of_recipes(places[0], top, count)
         elif what == "shards":
             try_shards(places[0], top, count)
         elif what == "cut":
