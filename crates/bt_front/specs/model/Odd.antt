@@ -1,4 +1,4 @@
--- Lines that bedtools 2.30.0 reads otherwise, or takes for the end of a text.
+-- Lines that bedtools 2.30.0 may read otherwise, or take for the end of a text.
 use Rattle.std.specs.Prelude.{ℕ, suc, Bool, true, false, ◌≡◌, ◌==◌, ◌&&◌, ◌||◌, not, List, [], ◌∷◌, ◌++◌, bytes_eq, codes, length, map, nat_lt, nat_le, take, drop, Option, Some, None}
 use Rattle.std.specs.List.{list_any, list_all}
 use Rattle.std.specs.Io.BufRead.{strip_last}
@@ -81,7 +81,7 @@ has_special (byte ∷ []) = is_mark byte
 has_special (byte ∷ next ∷ rest) =
     is_mark byte || ((byte == 10) && (next == 10)) || has_special (next ∷ rest)
 
--- Names of chromosomes that bedtools passes over, as a header line's first word.
+-- Names of chromosomes that bedtools may pass over, as a header line's first word.
 
 -- whether a name begins with a word of lowercase letters, whatever the case of its own
 abbrev pub begins_as : List ℕ → List ℕ → Bool
@@ -109,6 +109,6 @@ is_spaced_chr name = begins_as (codes "chr") name && is_spaced (drop 3 name)
 abbrev pub is_chrom : List ℕ → Bool
 is_chrom name = begins_as (codes "chrom") name && ((length name == 5) || is_spaced (drop 5 name))
 
--- whether bedtools passes over lines with this name
+-- whether bedtools may pass over lines with this name: some commands do, of some of these names
 abbrev pub is_header_name : List ℕ → Bool
 is_header_name name = begins_header name || is_spaced_chr name || is_chrom name

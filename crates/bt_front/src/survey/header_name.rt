@@ -1,9 +1,9 @@
-//! Names of chromosomes that bedtools passes over.
+//! Names of chromosomes that bedtools may pass over.
 
 ghost use Rattle.std.specs.Prelude.{◌≡◌, drop};
 ghost use Rattle.bt_front.specs.model.Odd.{begins_as, begins_header, is_chrom, is_header_name, is_space, is_spaced, is_spaced_chr};
 
-/// Whether bedtools passes over a line with this name, as a header line.
+/// Whether bedtools may pass over a line with this name, as a header line: some commands do.
 pub(crate) fn is_header_name(name: &[u8]) -> bool
     ensures { result ≡ is_header_name name.now }
 {

@@ -1,15 +1,15 @@
-//! Lines that bedtools reads otherwise.
+//! Lines that bedtools may read otherwise.
 
-/// What bedtools reads otherwise in a line.
+/// What bedtools may read otherwise in a line. Lines of some commands and numbers of columns it reads as Dunekettle does.
 #[derive(Clone, Copy, Debug, PartialEq, Eq)]
 pub enum Oddity {
     /// The line is blank: bedtools ends there, doesn't merge across it, or refuses it.
     Blank,
-    /// It has two carriage returns one after the other, of which bedtools leaves out both.
+    /// It has two carriage returns one after the other, of which bedtools leaves out both at the end of a line.
     DoubleReturn,
     /// It has a NUL, after which bedtools leaves out the rest of the column.
     Nul,
-    /// It has more than 1,023 bytes, after which bedtools cuts it.
+    /// It has more than 1,023 bytes, after which bedtools cuts lines of some numbers of columns.
     Long,
     /// It begins as the first line of VCF, so that bedtools reads the text as VCF.
     Vcf,
@@ -17,13 +17,13 @@ pub enum Oddity {
     ByteOrderMark,
     /// The text begins as a gzip file.
     Gzip,
-    /// Its chromosome's name is one that bedtools passes over, as a header line's first word.
+    /// Its chromosome's name is one that bedtools may pass over, as a header line's first word.
     HeaderName,
     /// Its end is above 536,870,912, past the last bin of bedtools.
     FarEnd,
 }
 
-/// A line that bedtools reads otherwise.
+/// A line that bedtools may read otherwise. No call gives one yet.
 #[derive(Clone, Copy, Debug, PartialEq, Eq)]
 pub struct OddLine {
     /// Its number, counted from 1.
