@@ -83,10 +83,10 @@ fn words_have_these_reasons(rt: HostRuntime) -> Result<(), Fail> {
     Ok(())
 }
 
-// A merge of this many words, most of them one option.
-fn merge_of(alloc: Global, count: usize) -> Result<Vec<String>, AllocError> {
+// A merge of three words and as many more, all of them one option.
+fn merge_with(alloc: Global, more: usize) -> Result<Vec<String>, AllocError> {
     let mut words = strings(alloc, "merge -i a")?;
-    while words.len() < count {
+    for _ in 0..more {
         words.push(String::from_str(alloc, "-s")?)?;
     }
     Ok(words)
@@ -94,13 +94,13 @@ fn merge_of(alloc: Global, count: usize) -> Result<Vec<String>, AllocError> {
 
 #[test]
 fn more_than_64_words_are_too_many(rt: HostRuntime) -> Result<(), Fail> {
-    let most = merge_of(rt.alloc(), 64)?;
+    let most = merge_with(rt.alloc(), 61)?;
     assert_eq!(rt;
         answer(rt.alloc(), most.as_slice())?,
         Err(WordReason::GivenTwice),
         "64 words"
     );
-    let more = merge_of(rt.alloc(), 65)?;
+    let more = merge_with(rt.alloc(), 62)?;
     assert_eq!(rt;
         answer(rt.alloc(), more.as_slice())?,
         Err(WordReason::TooManyWords),
