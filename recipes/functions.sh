@@ -111,6 +111,13 @@ swap_strands() {
         $6 ~ /^[+-]$/ { $6 = $6 == "+" ? "-" : "+"; print }'
 }
 
+# next_line(NAME) in awk: whether `found` has a further line of a file in the folder of this run. One that can't be read
+# ends all: its records aren't none.
+next_line='function next_line(name,  got) {
+    got = (getline found < (ENVIRON["folder"] "/" name))
+    if (got < 0) { print "unreadable file of this run: " name > "/dev/stderr"; exit 2 }
+    return got }'
+
 # Numbers of 32 bits, as bedtools computes them.
 single='function single(x,  c) { c = x * 536870913; return c - (c - x) }
     function share(x, y) { return single(single(x) / single(y)) }'

@@ -177,6 +177,25 @@ def try_folders_of_recipes(recipes, top, count):
     count.expect("TMPDIR=nowhere", (b"", True), (output, status != 0))
 
 
+def try_lost_files_of_recipes(recipes, top, count):
+    """A file of a run that is lost before it is read ends the script with an error, and isn't taken for no hits."""
+    folder, fakes = Path(top, "lost"), Path(top, "losing")
+    folder.mkdir()
+    fakes.mkdir()
+    write_files(folder)
+    (fakes / "awk").write_text(f"#!/bin/sh\ncase $* in *getline*) rm -f \"$folder/hits\" \"$folder/bases\" ;; esac\nexec {shutil.which('awk')} \"$@\"\n", encoding="utf-8")
+    (fakes / "awk").chmod(0o755)
+    for words in ("intersect-F.sh -a a.bed -b b.bed -F 0.1 -v", "intersect-F.sh -a a.bed -b b.bed -F 0.1 -c", "intersect-split.sh -a a.bed -b b.bed -v", "subtract-N.sh -a a.bed -b b.bed -f 0.3",
+                  "intersect-bam.sh -a reads.bam -b b.bed -v"):
+        if "bam" in words and not shutil.which("samtools"):
+            continue
+        script, *rest = words.split()
+        wanted = run([recipes / script, *rest], folder)
+        count.expect(f"{words} writes something", (True, 0), (wanted[0] != b"", wanted[1]))
+        output, status, said = run([recipes / script, *rest], folder, [fakes])
+        count.expect(f"{words}, where a file of the run is lost: {said}", (b"", True, True), (output, status in (1, 2), "unreadable file of this run" in said))
+
+
 def try_calls_of_recipes(recipes, top, count):
     """A recipe finds its functions by its own folder, whoever calls it and through a link, and fails without them."""
     folder, alone, links = (Path(top, name) for name in ("calls", "alone", "links"))
@@ -365,6 +384,7 @@ def main():
             try_calls_of_recipes(places[0], top, count)
             try_inputs_of_recipes(places[0], top, count)
             try_folders_of_recipes(places[0], top, count)
+            try_lost_files_of_recipes(places[0], top, count)
         elif what == "shards":
             try_shards(places[0], top, count)
         elif what == "cut":
