@@ -40,7 +40,7 @@ work() {
 }
 
 # read_words KNOWN WORD..: the options of a command line, as variables opt_X; those in KNOWN that end with : have a value.
-# `files` has the files of -b, which are several only if KNOWN has ..
+# `files` has the files of -b, which are several only if KNOWN has .. A fraction is a number, as awk would compare a text.
 read_words() {
     local known=" $1 " word
     shift
@@ -51,6 +51,7 @@ read_words() {
         case $word:$known in
         -*:*" $word: "*) [ $# -gt 0 ] || fail "$word needs a value"
             ! is_input "$1" || set -- - "${@:2}"
+            [[ ! $word =~ ^-[fF]$ || $1 =~ ^([0-9]+\.?[0-9]*|\.[0-9]+)$ ]] || fail "$word is no number: $1"
             declare -g "opt_${word#-}=$1"
             [ "$word" != -b ] || files+=("$1")
             shift ;;

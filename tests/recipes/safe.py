@@ -196,6 +196,23 @@ def try_lost_files_of_recipes(recipes, top, count):
         count.expect(f"{words}, where a file of the run is lost: {said}", (b"", True, True), (output, status in (1, 2), "unreadable file of this run" in said))
 
 
+def try_fractions_of_recipes(recipes, top, count):
+    """A fraction that is no number is refused, and not compared as text."""
+    folder = Path(top, "fractions")
+    folder.mkdir()
+    write_files(folder)
+    for words in ("intersect-F.sh -F 0.1 -f", "intersect-F.sh -F", "subtract-F.sh -F 0.5 -e -f", "subtract-F.sh -F", "subtract-N.sh -f", "intersect-opposite.sh -f", "intersect-loj.sh -loj -f",
+                  "intersect-files.sh -v -f", "intersect-bam.sh -f"):
+        script, *rest = words.split()
+        for value in ("0,5", "x", "", ".", "-1", "0x1", "1e-9", "0.5.1", " 0.5", "0.5\n", "nan", "inf", "-"):
+            output, status, said = run([recipes / script, "-a", "a.bed", "-b", "b.bed", *rest, value], folder)
+            count.expect(f"{words} {value!r}: {said}", (b"", 2, f"{script}: {rest[-1]} is no number: {value}\n"), (output, status, said))
+        for value in ("0.5", "0", "1", ".5", "1.", "00.50"):
+            if "bam" not in script:
+                _, status, said = run([recipes / script, "-a", "a.bed", "-b", "b.bed", *rest, value], folder)
+                count.expect(f"{words} {value}", (0, ""), (status, said))
+
+
 def try_calls_of_recipes(recipes, top, count):
     """A recipe finds its functions by its own folder, whoever calls it and through a link, and fails without them."""
     folder, alone, links = (Path(top, name) for name in ("calls", "alone", "links"))
@@ -385,6 +402,7 @@ def main():
             try_inputs_of_recipes(places[0], top, count)
             try_folders_of_recipes(places[0], top, count)
             try_lost_files_of_recipes(places[0], top, count)
+            try_fractions_of_recipes(places[0], top, count)
         elif what == "shards":
             try_shards(places[0], top, count)
         elif what == "cut":
