@@ -40,7 +40,7 @@ work() {
 }
 
 # read_words KNOWN WORD..: the options of a command line, as variables opt_X; those in KNOWN that end with : have a value.
-# `files` has the files of -b, which are several only if KNOWN has ..
+# `files` has the files of -b, which are several only if KNOWN has .. A fraction is a number, as awk would compare a text.
 read_words() {
     local known=" $1 " word
     shift
@@ -51,6 +51,7 @@ read_words() {
         case $word:$known in
         -*:*" $word: "*) [ $# -gt 0 ] || fail "$word needs a value"
             ! is_input "$1" || set -- - "${@:2}"
+            [[ ! $word =~ ^-[fF]$ || $1 =~ ^([0-9]+\.?[0-9]*|\.[0-9]+)$ ]] || fail "$word is no number: $1"
             declare -g "opt_${word#-}=$1"
             [ "$word" != -b ] || files+=("$1")
             shift ;;
@@ -110,6 +111,13 @@ swap_strands() {
     from "$1" awk -F'\t' -v OFS='\t' '{ sub(/\r$/, "") }
         $6 ~ /^[+-]$/ { $6 = $6 == "+" ? "-" : "+"; print }'
 }
+
+# next_line(NAME) in awk: whether `found` has a further line of a file in the folder of this run. One that can't be read
+# ends all: its records aren't none.
+next_line='function next_line(name,  got) {
+    got = (getline found < (ENVIRON["folder"] "/" name))
+    if (got < 0) { print "unreadable file of this run: " name > "/dev/stderr"; exit 2 }
+    return got }'
 
 # Numbers of 32 bits, as bedtools computes them.
 single='function single(x,  c) { c = x * 536870913; return c - (c - x) }

@@ -30,8 +30,8 @@ u | c | v)
     records "$opt_a" > "$folder/a.bed"
     from "$folder/a.bed" awk -F'\t' -v OFS='\t' '{ print $1, $2, $3, NR, 0, $6, 0 }' |
         bt intersect -a - -b "$opt_b" "${rule[@]}" -wo | enough | cut -f 4 > "$folder/hits"
-    from "$folder/a.bed" awk -v shape=$shape '
-        BEGIN { while ((getline number < (ENVIRON["folder"] "/hits")) > 0) hits[number]++ }
+    from "$folder/a.bed" awk -v shape=$shape "$next_line"'
+        BEGIN { while (next_line("hits")) hits[found]++ }
         shape == "c" { print $0 "\t" hits[NR] + 0; next }
         (NR in hits) == (shape == "u")' ;;
 *)

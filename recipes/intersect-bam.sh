@@ -15,8 +15,8 @@ form=-b
 from "$opt_a" samtools view - | awk -F'\t' -v OFS='\t' '{ $1 = NR; print }' |
     bt bamtobed | bt intersect -a - -b "$opt_b" -u ${opt_f:+-f "$opt_f"} ${opt_g:+-g "$opt_g"} |
     cut -f 4 | sed 's/\/.*//' > "$folder/hits"
-from "$opt_a" samtools view -h - | awk -v is_v="${opt_v:-0}" '
-    BEGIN { while ((getline number < (ENVIRON["folder"] "/hits")) > 0) hit[number] }
+from "$opt_a" samtools view -h - | awk -v is_v="${opt_v:-0}" "$next_line"'
+    BEGIN { while (next_line("hits")) hit[found] }
     /^@/ && !n { print; next } (++n in hit) != is_v' |
     samtools view $form
 exit

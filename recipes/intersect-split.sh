@@ -20,8 +20,8 @@ blocks() {
 records "$opt_a" > "$folder/a.bed"
 records "$opt_b" | blocks > "$folder/b.blocks"
 blocks < "$folder/a.bed" | bt intersect -u -a - -b "$folder/b.blocks" | cut -f 4 > "$folder/hits"
-from "$folder/a.bed" awk -v is_v="${opt_v:-0}" '
-    BEGIN { while ((getline number < (ENVIRON["folder"] "/hits")) > 0) hit[number] }
+from "$folder/a.bed" awk -v is_v="${opt_v:-0}" "$next_line"'
+    BEGIN { while (next_line("hits")) hit[found] }
     (NR in hit) != is_v'
 exit
 }

@@ -12,8 +12,8 @@ records "$opt_a" > "$folder/a.bed"
 bt merge -i "$opt_b" > "$folder/b.bed"
 from "$folder/a.bed" awk -F'\t' -v OFS='\t' '{ print $1, $2, $3, NR }' |
     bt intersect -a - -b "$folder/b.bed" -wo | cut -f 4,8 > "$folder/bases"
-from "$folder/a.bed" awk -F'\t' -v fraction="$opt_f" 'BEGIN {
-        while ((getline line < (ENVIRON["folder"] "/bases")) > 0) { split(line, pair, "\t"); bases[pair[1]] += pair[2] } }
+from "$folder/a.bed" awk -F'\t' -v fraction="$opt_f" "$next_line"'
+    BEGIN { while (next_line("bases")) { split(found, pair, "\t"); bases[pair[1]] += pair[2] } }
     bases[NR] / ($3 - $2) <= fraction'
 exit
 }

@@ -177,6 +177,42 @@ def try_folders_of_recipes(recipes, top, count):
     count.expect("TMPDIR=nowhere", (b"", True), (output, status != 0))
 
 
+def try_lost_files_of_recipes(recipes, top, count):
+    """A file of a run that is lost before it is read ends the script with an error, and isn't taken for no hits."""
+    folder, fakes = Path(top, "lost"), Path(top, "losing")
+    folder.mkdir()
+    fakes.mkdir()
+    write_files(folder)
+    (fakes / "awk").write_text(f"#!/bin/sh\ncase $* in *getline*) rm -f \"$folder/hits\" \"$folder/bases\" ;; esac\nexec {shutil.which('awk')} \"$@\"\n", encoding="utf-8")
+    (fakes / "awk").chmod(0o755)
+    for words in ("intersect-F.sh -a a.bed -b b.bed -F 0.1 -v", "intersect-F.sh -a a.bed -b b.bed -F 0.1 -c", "intersect-split.sh -a a.bed -b b.bed -v", "subtract-N.sh -a a.bed -b b.bed -f 0.3",
+                  "intersect-bam.sh -a reads.bam -b b.bed -v"):
+        if "bam" in words and not shutil.which("samtools"):
+            continue
+        script, *rest = words.split()
+        wanted = run([recipes / script, *rest], folder)
+        count.expect(f"{words} writes something", (True, 0), (wanted[0] != b"", wanted[1]))
+        output, status, said = run([recipes / script, *rest], folder, [fakes])
+        count.expect(f"{words}, where a file of the run is lost: {said}", (b"", True, True), (output, status in (1, 2), "unreadable file of this run" in said))
+
+
+def try_fractions_of_recipes(recipes, top, count):
+    """A fraction that is no number is refused, and not compared as text."""
+    folder = Path(top, "fractions")
+    folder.mkdir()
+    write_files(folder)
+    for words in ("intersect-F.sh -F 0.1 -f", "intersect-F.sh -F", "subtract-F.sh -F 0.5 -e -f", "subtract-F.sh -F", "subtract-N.sh -f", "intersect-opposite.sh -f", "intersect-loj.sh -loj -f",
+                  "intersect-files.sh -v -f", "intersect-bam.sh -f"):
+        script, *rest = words.split()
+        for value in ("0,5", "x", "", ".", "-1", "0x1", "1e-9", "0.5.1", " 0.5", "0.5\n", "nan", "inf", "-"):
+            output, status, said = run([recipes / script, "-a", "a.bed", "-b", "b.bed", *rest, value], folder)
+            count.expect(f"{words} {value!r}: {said}", (b"", 2, f"{script}: {rest[-1]} is no number: {value}\n"), (output, status, said))
+        for value in ("0.5", "0", "1", ".5", "1.", "00.50"):
+            if "bam" not in script:
+                _, status, said = run([recipes / script, "-a", "a.bed", "-b", "b.bed", *rest, value], folder)
+                count.expect(f"{words} {value}", (0, ""), (status, said))
+
+
 def try_calls_of_recipes(recipes, top, count):
     """A recipe finds its functions by its own folder, whoever calls it and through a link, and fails without them."""
     folder, alone, links = (Path(top, name) for name in ("calls", "alone", "links"))
@@ -365,6 +401,8 @@ def main():
             try_calls_of_recipes(places[0], top, count)
             try_inputs_of_recipes(places[0], top, count)
             try_folders_of_recipes(places[0], top, count)
+            try_lost_files_of_recipes(places[0], top, count)
+            try_fractions_of_recipes(places[0], top, count)
         elif what == "shards":
             try_shards(places[0], top, count)
         elif what == "cut":
