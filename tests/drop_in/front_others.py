@@ -11,7 +11,7 @@ import subprocess
 import time
 from pathlib import Path
 
-from front_tools import TOP, call, drop_in, is_busy, looking
+from front_tools import TOP, call, drop_in, install, is_busy, looking
 
 # What isn't tried, and why.
 KNOWN = ("a first line of 40 MB is read byte by byte by the shell, for seconds: a script has no other way to look at one without a process more",
@@ -50,6 +50,42 @@ def try_links(place, folder, count):
                 count.expect(f"{asked} by a link in a folder of others", ((MERGED, "", 0), False), (found, (folder / "hit").exists()))
         found = call([bin_folder / "dunekettle", "merge", "-i", "nowhere.bed"], folder, looking())
         count.expect("a hint by a link in a folder of others", (1, True, False), (found[2], "isn't there" in found[1], (folder / "hit").exists()))
+
+
+def try_copies(place, folder, count):
+    """Copies of the front below a folder that is open to all, where others have put parts and a program, which aren't read."""
+    hostile = f"#!/bin/sh\ntouch '{folder}/hit'\nexit 0\n"
+    for mode in (0o1777, 0o777):
+        scratch = folder.parent / f"scratch {mode:o}"
+        # The last of these is in the open folder itself.
+        for where in (scratch / "bin", scratch / "both", scratch / "open"):
+            where.mkdir(parents=True)
+            for name in ("bedtools", "mergeBed", "dunekettle"):
+                shutil.copy(place / "bin" / "dunekettle", where / name)
+        for where in (scratch, scratch / "open"):
+            (where / "lib" / "dunekettle").mkdir(parents=True)
+            for part in ((TOP / "front").glob("*.*")):
+                (where / "lib" / "dunekettle" / part.name).write_text(hostile, encoding="utf-8")
+            where.chmod(mode)
+        shutil.copy(place / "bin" / "dunekettle-bedtools", scratch / "both")
+        (scratch / "open" / "dunekettle-bedtools").write_text(hostile, encoding="utf-8")
+        (scratch / "open" / "dunekettle-bedtools").chmod(0o755)
+        own = install(scratch / "own")
+        # In the other one they may replace bin/ itself, and need no parts.
+        is_sticky = mode & 0o1000
+        for bin_folder in (scratch / "bin", own / "bin", drop_in(own), *((scratch / "both", scratch / "open") if is_sticky else ())):
+            for line in ("bedtools merge -i a.bed", "mergeBed -i a.bed", "dunekettle merge -i a.bed", "bedtools merge -i nowhere.bed", "dunekettle merge -i nowhere.bed", "dunekettle check a.bed"):
+                program, *words = line.split()
+                if not (bin_folder / program).exists():
+                    continue
+                output, said, status = call([bin_folder / program, *words], folder, looking(place / "bin"))
+                wanted = (True, True, 1) if "nowhere.bed" in words else (True, False, 0)
+                is_right = output == MERGED if "a.bed" in words and "merge" in line else output.startswith(b"a.bed: BED") if "check" in words else not output
+                count.expect(f"{line} by a copy in {bin_folder.parent.name}/{bin_folder.name}: {said[:200]}", (wanted, False), ((is_right, said != "", status), (folder / "hit").exists()))
+                (folder / "hit").unlink(missing_ok=True)
+    scratch = folder.parent / f"scratch {0o1777:o}"
+    output, said, status = call(["dunekettle", "merge", "-i", "a.bed"], folder, looking(scratch / "both"))
+    count.expect("a copy of both on PATH", (b"", f"dunekettle: others may put files beside {scratch}/both/dunekettle-bedtools: put a link in its place\n", 127, False), (output, said, status, (folder / "hit").exists()))
 
 
 def try_tell(place, folder, count):
@@ -150,6 +186,6 @@ def try_others(place, folder, count):
         shutil.copy(folder / "a.bed", folder / name)
     (folder / "few.bed").write_text("".join((folder / "a.bed").read_text(encoding="utf-8").splitlines(keepends=True)[:9]), encoding="utf-8")
     (folder / "unsorted.bed").write_text("chr1\t9\t12\nchr1\t2\t6\n", encoding="utf-8")
-    for trial in (try_links, try_tell, try_options_of_shells, try_failed_opens, try_left_folders, try_reused_numbers):
+    for trial in (try_links, try_copies, try_tell, try_options_of_shells, try_failed_opens, try_left_folders, try_reused_numbers):
         trial(place, folder, count)
     print("known:", *KNOWN, sep="\n  ")

@@ -323,6 +323,25 @@ def try_links_of_shards(shards, top, count):
     count.expect("what others have", (b"victim", [], part.read_bytes()), (victim.read_bytes(), [name for name in listed(folder.parent / "other") if name != "2"], (folder / "reads.sam").read_bytes()))
 
 
+def try_links_of_snakemake(shards, top, count):
+    """The Snakefile's jobs write through no link: a shard's folder is refused, and a log replaced."""
+    if not shutil.which("snakemake"):
+        print("no snakemake: links were passed over")
+        return
+    for number, link in enumerate(("shards/chr2", "logs/chr1.txt")):
+        folder, other = Path(top, f"snake{number}"), Path(top, f"snake{number} other")
+        shutil.copytree(shards, folder)
+        other.mkdir()
+        (other / "victim").write_text("victim", encoding="utf-8")
+        shutil.copy(Path(top, "plain", "a.bed"), folder)
+        (folder / link).parent.mkdir()
+        is_folder = "shards" in link
+        (folder / link).symlink_to(other if is_folder else other / "victim")
+        _, status, said = run(["snakemake", "--cores", "2", "--quiet", "--config", "command=merge -i a.bed", "output=made.bed"], folder)
+        count.expect(f"Snakemake, where {link} is a link: {said[-500:]}", (is_folder, is_folder, not is_folder, ["victim"], "victim"),
+                     (status != 0, f"a link leads out of the folder shards: {link}" in said, (folder / "made.bed").exists(), listed(other), (other / "victim").read_text(encoding="utf-8")))
+
+
 def try_chromosomes(shards, top, count):
     """The shard scripts and the Snakefile with chromosomes of other names: refused if they lead elsewhere."""
     for place in OUTSIDE:
@@ -385,6 +404,7 @@ def try_shards(shards, top, count):
     count.expect("index.sh", (b"", 0, ""), run([shards / "index.sh", "a.bed", "b.bed", "s.fa"], folder))
     try_files_of_shards(shards, top, count)
     try_links_of_shards(shards, top, count)
+    try_links_of_snakemake(shards, top, count)
     try_chromosomes(shards, top, count)
 
 
