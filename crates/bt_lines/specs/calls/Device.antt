@@ -41,16 +41,6 @@ module _ {S : Type 0} (IsRead : S → Option (List ℕ) → S → Type 0) where
     pub served : ReadsOn IsRead old bytes before
     pub fails : IsRead before None new
 
-  -- reads that succeeded made the one source the other, and what they handed over is counted
-  pub record ReadsCounted (old : S) (old_taken : ℕ) (new : S) (taken : ℕ) : Type 0 where
-    pub bytes : List ℕ
-    pub served : ReadsOn IsRead old bytes new
-    pub counted : taken ≡ old_taken + length bytes
-
-  -- after reads that succeeded, one failed
-  abbrev pub ReadsFail : S → S → Type 0
-  ReadsFail old new = (bytes : List ℕ) × FailsAfter old bytes new
-
 -- What the adapters of std's readers and writers hold.
 
 -- the reader below the source

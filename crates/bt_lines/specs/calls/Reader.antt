@@ -8,7 +8,7 @@ use Rattle.bt_lines.specs.declared.reader.buffered_lines.ConsumedLines.{Consumed
 use Rattle.std.specs.Io.KnownBytes.{Consumes, IsAtEnd, prepend_known}
 use Rattle.bt_lines.specs.declared.device.Source.{Ghosts as Source}
 use Rattle.bt_lines.specs.inside.ReadBuffer.{complete, unread, ended_at, fault_at, open_at, taken_at, told_at}
-use Rattle.bt_lines.specs.calls.Device.{FailsAfter, ReadsCounted, ReadsFail, ReadsOn}
+use Rattle.bt_lines.specs.calls.Device.{FailsAfter, ReadsOn}
 use Rattle.bt_lines.specs.calls.Output.{block_size}
 use Rattle.bt_lines.specs.model.Fault.{FaultValue, read_failed}
 use Rattle.bt_lines.specs.calls.Faults.{no_memory}
@@ -81,6 +81,10 @@ abbrev pub left_at : Bool → List ℕ → Option (List ℕ) → Option (List �
 left_at true held left = option_map (λ bytes. held) left
 left_at false held left = prepend_known held left
 
+-- a failed read is kept
+abbrev pub IsReadFailed : Option FaultValue → Type 0
+IsReadFailed kept = (input : Input) × (line : ℕ) × (kept ≡ Some (read_failed input line))
+
 -- the first `count` lines are gone, if they were known
 abbrev pub DropsLines : Option (List TextLine) → ℕ → Option (List TextLine) → Type 0
 DropsLines None count new = ⊤
@@ -145,12 +149,16 @@ module _ {S : Type 0} where
   -- the source handed over these bytes in the call
   pub record Hands (device : Source S) (old : LineReader S) (bytes : List ℕ)
       (new : LineReader S) : Type 0 where
-    -- whatever the source: by reads that succeeded, or by others and one that failed, the last one
+    -- whatever the source: by reads that succeeded, or by others and one that failed, the last one, and a failed read
+    -- is kept
     pub reads : ReadsOn device.is_read (source_of old) bytes (source_of new)
-        ⊎ (FailsAfter device.is_read (source_of old) bytes (source_of new) × IsSome (fault_kept new))
-    -- after a fault nothing is read
+        ⊎ (FailsAfter device.is_read (source_of old) bytes (source_of new) × IsReadFailed (fault_kept new))
+    -- a failed read that is kept since then is one of these, or the text is too long
+    pub own : fault_kept old ≡ None → IsReadFailed (fault_kept new)
+        → FailsAfter device.is_read (source_of old) bytes (source_of new) ⊎ (2 ^ 63 ≤ bytes_taken new)
+    -- after a fault nothing is read, and it is kept
     pub stops : IsSome (fault_kept old)
-        → (bytes ≡ []) × (source_of new ≡ source_of old) × IsSome (fault_kept new)
+        → (bytes ≡ []) × (source_of new ≡ source_of old) × (fault_kept new ≡ fault_kept old)
     -- known bytes lose them
     pub left_over : Consumes (device.left (source_of old)) (device.left (source_of new)) bytes
     pub counted : bytes_taken new ≡ bytes_taken old + length bytes
@@ -197,7 +205,7 @@ module _ {S : Type 0} where
     pub again : has_ended old ≡ true → new ≡ old
 
   -- a failed read: the source has failed, or the text is too long (that a read of this call
-  -- failed `TellsReads` says)
+  -- failed `Hands` says)
   pub record FailsToRead (device : Source S) (old : LineReader S)
       (fault : FaultValue) (new : LineReader S) : Type 0 where
     pub is : fault ≡ read_failed (input_of old) (suc (lines_given old))
@@ -245,33 +253,6 @@ module _ {S : Type 0} where
   Answers device old (Ok None) new = GivesEnd device old new
   Answers device old (Err fault) new = GivesFault device old (fault_value fault) new
 
-  -- the reads of the source in between all served, and handed over as many bytes as the reader counts
-  abbrev pub HasRead : (S → Option (List ℕ) → S → Type 0) → LineReader S → LineReader S → Type 0
-  HasRead IsRead old new =
-      ReadsCounted IsRead (source_of old) (bytes_taken old) (source_of new) (bytes_taken new)
-
-  -- a read in between failed, or the reads up to now gave more bytes than a text may have
-  abbrev pub IsUnread : (S → Option (List ℕ) → S → Type 0) → LineReader S → LineReader S → Type 0
-  IsUnread IsRead old new = ReadsFail IsRead (source_of old) (source_of new)
-      ⊎ (HasRead IsRead old new × (2 ^ 63 ≤ bytes_taken new))
-
-  -- a failed read is reported exactly if one of the reads in between failed or the text is too long
-  pub record TellsReads (IsRead : S → Option (List ℕ) → S → Type 0) (old : LineReader S)
-      (fault : Option FaultValue) (new : LineReader S) : Type 0 where
-    pub unread : (input : Input) (line : ℕ) → fault ≡ Some (read_failed input line)
-        → IsUnread IsRead old new
-    pub read : ((input : Input) (line : ℕ) → fault ≢ Some (read_failed input line))
-        → HasRead IsRead old new
-
-  -- A failed read is reported for the first time only if a read of this call failed, or if the text is
-  -- too long by what its reads gave. What the source did before doesn't matter. Else all reads of the
-  -- call succeeded.
-  abbrev pub TellsOwnFailure : {A : Type 0} → (S → Option (List ℕ) → S → Type 0) → LineReader S
-      → Result A Fault → LineReader S → Type 0
-  TellsOwnFailure IsRead old (Ok done) new = HasRead IsRead old new
-  TellsOwnFailure IsRead old (Err fault) new = fault_kept old ≡ None
-      → TellsReads IsRead old (Some (fault_value fault)) new
-
   -- how many bytes a line that is longer than a block may have before its buffer has to grow
   unfoldable pub line_room : LineReader S → ℕ
   line_room reader = vec_capacity reader.buffer.spilled
@@ -290,7 +271,6 @@ module _ {S : Type 0} where
   pub record NextLine (device : Source S) (old : LineReader S) (answer : Result (Option Line) Fault)
       (new : LineReader S) : Type 0 where
     pub answers : Answers device old answer new
-    pub own_failure : TellsOwnFailure device.is_read old answer new
     pub memory : FillsItsRoom old answer new
     pub sound : IsSound device old → IsSound device new
 

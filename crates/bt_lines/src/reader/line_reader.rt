@@ -58,7 +58,7 @@ impl<S: Source> LineReader<S> {
     ghost use Rattle.std.specs.Borrow.{sem};
     ghost use Rattle.std.specs.Io.BufRead.{Rests};
     ghost use Rattle.bt_lines.specs.contracts.reader.line_reader.LineReader.{the_row};
-    ghost use Rattle.bt_lines.specs.calls.Reader.{FillsItsRoom, FillsLines, IsKept, IsPrefix, IsTaken, TakesLines, buffered_bytes, buffered_in, is_open, HasRead, IsSound, NextLine, TellsOwnFailure, feeds_taken, source_of, input_of, lines_given, bytes_taken, held, fault_kept, has_ended, lines_left, BeginsLines, lines_in};
+    ghost use Rattle.bt_lines.specs.calls.Reader.{FillsItsRoom, FillsLines, IsKept, IsPrefix, IsTaken, TakesLines, buffered_bytes, buffered_in, is_open, IsSound, NextLine, feeds_taken, source_of, input_of, lines_given, bytes_taken, held, fault_kept, has_ended, lines_left, BeginsLines, lines_in};
     ghost use Rattle.bt_lines.specs.model.Lines.{text_lines};
     ghost use Rattle.bt_lines.specs.model.Fault.{read_failed};
     ghost use Rattle.bt_lines.specs.calls.Names.{fault_value};
@@ -89,7 +89,6 @@ impl<S: Source> LineReader<S> {
     #[inline(always)]
     pub fn fill(&mut self) -> Result<bool, Fault>
         ensures fills { FillsLines S.Source self.old result self.new }
-        ensures own_failure { TellsOwnFailure S.is_read self.old result self.new }
         ensures memory { FillsItsRoom self.old result self.new }
     {
         if !self.buffer.lines().is_empty() {
@@ -198,7 +197,6 @@ impl<S: Source> LineReader<S> {
     fn read_on(&mut self) -> Result<bool, Fault>
         requires { complete self.old.buffer ≡ [] }
         ensures fills { FillsLines S.Source self.old result self.new }
-        ensures own_failure { TellsOwnFailure S.is_read self.old result self.new }
         ensures memory { FillsItsRoom self.old result self.new }
     {
         match self.state {
@@ -217,7 +215,6 @@ impl<S: Source> LineReader<S> {
         requires none { complete self.old.buffer ≡ [] }
         requires going { self.old.state ≡ State.Reading }
         ensures fills { FillsLines S.Source self.old result self.new }
-        ensures own_failure { TellsOwnFailure S.is_read self.old result self.new }
         ensures memory { FillsItsRoom self.old result self.new }
     {
         match read_lines(&mut self.source, &mut self.buffer, &mut self.taken) {

@@ -1,7 +1,7 @@
 -- Lemmas on making a line buffered, and on the step to the next line by it.
 use Rattle.bt_lines.proofs.Std.{append-nil, refl, IsErrAnd, err_from_is_err_and, common_steps, ◌≡◌, ℕ, ◌-◌, ◌<◌, Bool, true, false, List, [], ◌++◌, length, take, Option, Result, None, Some, Ok, Err, sym, ap, ◌∙◌, subst, append_assoc, length-append, arith, IfSome, ◌+◌, ◌≤◌, ◌∷◌, drop, eqb, take-add, take-append-drop, take_at, drop_at, length-take-le, length-drop, All-append, replicate, get_or, get_or-append_right, get_or-append_seam, get_or-replicate, get_or_append_left, length-replicate, drop_more, take-append-le, take-take}
 use Rattle.bt_lines.specs.declared.device.Source.{Ghosts as Source}
-use Rattle.bt_lines.proofs.lemmas.reader.block.ReadsLemmas.{hands_both, hands_none, hands_still, has_read_then, no_fault, some_is}
+use Rattle.bt_lines.proofs.lemmas.reader.block.ReadsLemmas.{hands_both, hands_none, hands_still, some_is}
 use Rattle.bt_lines.proofs.lemmas.reader.lines.BufferedLemmas.{CutsFirst}
 use Rattle.bt_lines.proofs.lemmas.reader.lines.StepLemmas.{none_told}
 use Rattle.bt_lines.proofs.lemmas.reader.lines.TextLemmas.{line_feeds-append}
@@ -10,7 +10,7 @@ use Rattle.bt_lines.specs.calls.Line.{line_seen}
 use Rattle.bt_lines.specs.calls.Names.{fault_value}
 use Rattle.bt_lines.specs.model.Lines.{TextLine}
 use Rattle.bt_lines.specs.inside.ReadBuffer.{complete}
-use Rattle.bt_lines.specs.calls.Reader.{DropsLines, FillsItsRoom, FillsLines, GivesLine, HasRead, MakesLine, NextLine, TellsOwnFailure, buffered_bytes, bytes_left, bytes_taken, end_told, fault_kept, feeds_taken, has_ended, held, input_of, lines_given, lines_left, source_of}
+use Rattle.bt_lines.specs.calls.Reader.{DropsLines, FillsItsRoom, FillsLines, GivesLine, MakesLine, NextLine, buffered_bytes, bytes_left, bytes_taken, end_told, fault_kept, feeds_taken, has_ended, held, input_of, lines_given, lines_left, source_of}
 use Rattle.bt_lines.specs.declared.fault.Fault.{Fault}
 use Rattle.bt_lines.specs.declared.reader.line.Line.{Line}
 use Rattle.bt_lines.specs.declared.reader.line_reader.LineReader.{LineReader}
@@ -71,7 +71,7 @@ module _ {S : Type 0} (device : Source S) where
   pub fills_after_last : (old new : LineReader S) → complete old.buffer ≡ [] → old.state ≡ LastLine → new.source ≡ old.source → new.buffer ≡ old.buffer → new.taken ≡ old.taken → new.lines ≡ old.lines
       → new.input ≡ old.input → new.state ≡ Ended → FillsLines device old (Ok false) new
   unfolding source_of input_of lines_given bytes_taken held fault_kept has_ended end_told feeds_taken buffered_bytes
-  fills_after_last old new none was same_source same_buffer same_taken same_lines same_input ended = grind (arith, none_left_told, (hands_still device old new same_source), no_fault)
+  fills_after_last old new none was same_source same_buffer same_taken same_lines same_input ended = grind (arith, none_left_told, (hands_still device old new same_source))
 
   pub fills_again : (old : LineReader S) → complete old.buffer ≡ [] → old.state ≡ Ended → FillsLines device old (Ok false) old
   unfolding source_of lines_given bytes_taken held fault_kept has_ended end_told buffered_bytes
@@ -82,25 +82,22 @@ module _ {S : Type 0} (device : Source S) where
   gives_after old mid new line made gives = grind (arith, append_assoc, line_feeds-append, length-append, (hands_both device old mid new made.bytes.0 gives.bytes.0))
 
   -- a call of `next` that met no line
-  pub ends_by : (old new : LineReader S) (answer : Result Bool Fault) → answer ≡ Ok false → FillsLines device old answer new → TellsOwnFailure device.is_read old answer new → NextLine device old (Ok None) new
-  ends_by old new answer e fills tells =
+  pub ends_by : (old new : LineReader S) (answer : Result Bool Fault) → answer ≡ Ok false → FillsLines device old answer new → NextLine device old (Ok None) new
+  ends_by old new answer e fills =
       let filled = subst (λ (r : Result Bool Fault). FillsLines device old r new) e fills in
-      let read = subst (λ (r : Result Bool Fault). TellsOwnFailure device.is_read old r new) e tells in
       grind arith
 
   -- or a fault
-  pub stops_by : (old new : LineReader S) (fault : Fault) → FillsLines device old (Err fault) new → TellsOwnFailure {A = Bool} device.is_read old (Err fault) new
-      → FillsItsRoom {A = Bool} old (Err fault) new → NextLine device old (Err fault) new
-  stops_by old new fault fills tells room = grind arith
+  pub stops_by : (old new : LineReader S) (fault : Fault) → FillsLines device old (Err fault) new → FillsItsRoom {A = Bool} old (Err fault) new → NextLine device old (Err fault) new
+  stops_by old new fault fills room = grind arith
 
   -- the line that was made buffered, or was so, is given
-  pub next_by : (old mid new : LineReader S) (answer : Result Bool Fault) (line : Line) → answer ≡ Ok true → FillsLines device old answer mid → TellsOwnFailure device.is_read old answer mid
-      → CutsFirst device mid (line_seen line) new → HasRead device.is_read mid new → NextLine device old (Ok (Some line)) new
-  next_by old mid new answer line e fills tells cuts read =
+  pub next_by : (old mid new : LineReader S) (answer : Result Bool Fault) (line : Line) → answer ≡ Ok true → FillsLines device old answer mid
+      → CutsFirst device mid (line_seen line) new → NextLine device old (Ok (Some line)) new
+  next_by old mid new answer line e fills cuts =
       let filled = subst (λ (r : Result Bool Fault). FillsLines device old r mid) e fills in
       record {
         answers = gives_after old mid new (line_seen line) filled.answers cuts.gives;
-        own_failure = has_read_then device.is_read old mid new (subst (λ (r : Result Bool Fault). TellsOwnFailure device.is_read old r mid) e tells) read;
         memory = tt;
         sound = λ h. cuts.sound (filled.kept (record { end = h.end; within = h.within }));
       }

@@ -1,12 +1,13 @@
 -- Lemmas on what the reads of a source handed over.
-use Rattle.bt_lines.proofs.Std.{◌∙◌, ◌≡◌, ◌⊎◌, ℕ, true, false, false≢true, List, [], ◌++◌, inl, inr, refl, subst, IsSome, Consumes-nil, Consumes-trans, Option, Some, None, sym, ap, add-zero, append-nil, append_assoc, length-append, arith}
-use Rattle.bt_lines.specs.calls.Device.{FailsAfter, ReadsCounted, ReadsFail, ReadsOn, begun, gave}
+use Rattle.bt_lines.proofs.Std.{◌∙◌, ◌≡◌, ◌⊎◌, ℕ, ◌+◌, ◌^◌, ◌<◌, ◌≤◌, true, false, false≢true, List, [], ◌++◌, inl, inr, length, refl, subst, IsSome, Consumes, Consumes-nil, Consumes-trans, Option, Some, None, sym, ap, add-zero, append-nil, append_assoc, length-append, arith}
+use Rattle.bt_lines.specs.calls.Line.{line_feeds}
+use Rattle.bt_lines.specs.calls.Device.{FailsAfter, ReadsOn, begun, gave}
 use Rattle.bt_lines.specs.model.Fault.{FaultValue, read_failed}
 use Rattle.bt_lines.specs.calls.Faults.{no_memory}
 use Rattle.bt_lines.specs.declared.fault.Input.{Input}
 use Rattle.bt_lines.specs.declared.fault.Kind.TheVariants.{NoMemory as OutOfMemory, ReadFailed}
 use Rattle.bt_lines.proofs.lemmas.reader.lines.TextLemmas.{line_feeds-append}
-use Rattle.bt_lines.specs.calls.Reader.{Hands, HasRead, IsUnread, TellsReads, bytes_taken, end_told, fault_kept, feeds_taken, input_of, source_of}
+use Rattle.bt_lines.specs.calls.Reader.{Hands, IsReadFailed, bytes_taken, end_told, fault_kept, feeds_taken, input_of, source_of}
 use Rattle.bt_lines.specs.declared.device.Source.{Ghosts as Source}
 use Rattle.bt_lines.specs.declared.reader.line_reader.LineReader.{LineReader}
 
@@ -33,20 +34,6 @@ module _ {S : Type 0} (IsRead : S → Option (List ℕ) → S → Type 0) where
       reads_nothing_as : none ≡ [] → ReadsOn IsRead a none a
       reads_nothing_as e = rw e begun
 
-  -- nothing was read
-  pub counts_none : (a b : S) (m n : ℕ) → b ≡ a → n ≡ m → ReadsCounted IsRead a m b n
-  counts_none a b m n same none = record { bytes = []; served = reads_nothing a b same; counted = none ∙ sym (add-zero m) }
-
-  pub counts_then : (a b c : S) (m n k : ℕ) → ReadsCounted IsRead a m b n → ReadsCounted IsRead b n c k → ReadsCounted IsRead a m c k
-  counts_then a b c m n k one two = record {
-    bytes = one.bytes ++ two.bytes;
-    served = reads_then one.served two.served;
-    counted = omega (arith, one.counted, two.counted, length-append one.bytes two.bytes);
-  }
-
-  pub fails_then : (a b c : S) (m n : ℕ) → ReadsCounted IsRead a m b n → ReadsFail IsRead b c → ReadsFail IsRead a c
-  fails_then a b c m n one two = (one.bytes ++ two.0, fails_later one.served two.1)
-
 -- out of memory is no failed read
 pub memory_no_read : (input : Input) (line : ℕ) → no_memory ≡ read_failed input line → ⊥
 memory_no_read input line e = let apart : OutOfMemory ≡ ReadFailed = ap (λ (f : FaultValue). f.kind) e in cc
@@ -60,13 +47,63 @@ some_is one other e = cc
 pub no_fault : (kept : Option FaultValue) → kept ≡ None → IsSome kept → ⊥
 no_fault kept none some = false≢true (subst (λ (o : Option FaultValue). IsSome o) none some)
 
+-- a reader that keeps no fault keeps no failed read
+pub none_failed : (kept : Option FaultValue) → kept ≡ None → IsReadFailed kept → ⊥
+none_failed kept none (input, line, e) = absurd (let apart : None ≡ Some (read_failed input line) = sym none ∙ e in cc)
+
+-- nor does one that ran out of memory
+pub memory_failed : (kept : Option FaultValue) → kept ≡ Some no_memory → IsReadFailed kept → ⊥
+memory_failed kept is (input, line, e) = memory_no_read input line (some_is no_memory (read_failed input line) (sym is ∙ e))
+
+-- a reader keeps a fault, or none
+kept_or_none : (kept : Option FaultValue) → (kept ≡ None) ⊎ IsSome kept
+kept_or_none None = inl refl
+kept_or_none (Some fault) = inr refl
+
 module _ {S : Type 0} (device : Source S) where
+  -- how bytes were handed over before any fault: by reads that succeeded, too many of them if a failed read is kept, or by
+  -- others and one that failed
+  abbrev pub Comes : LineReader S → List ℕ → LineReader S → Type 0
+  Comes old bytes new =
+      (ReadsOn device.is_read (source_of old) bytes (source_of new) × (IsReadFailed (fault_kept new) → 2 ^ 63 ≤ bytes_taken new))
+      ⊎ (FailsAfter device.is_read (source_of old) bytes (source_of new) × IsReadFailed (fault_kept new))
+
+  module _ (old new : LineReader S) (bytes : List ℕ) where
+    reads_of : Comes old bytes new → ReadsOn device.is_read (source_of old) bytes (source_of new)
+        ⊎ (FailsAfter device.is_read (source_of old) bytes (source_of new) × IsReadFailed (fault_kept new))
+    reads_of (inl on) = inl on.0
+    reads_of (inr fails) = inr fails
+
+    own_of : Comes old bytes new → IsReadFailed (fault_kept new) → FailsAfter device.is_read (source_of old) bytes (source_of new) ⊎ (2 ^ 63 ≤ bytes_taken new)
+    own_of (inl on) failed = inr (on.1 failed)
+    own_of (inr fails) failed = inl fails.0
+
+    pub hands_by : fault_kept old ≡ None → Comes old bytes new → Consumes (device.left (source_of old)) (device.left (source_of new)) bytes → bytes_taken new ≡ bytes_taken old + length bytes
+        → input_of new ≡ input_of old → (end_told new ≡ false → bytes_taken new < 2 ^ 63 → feeds_taken new ≡ feeds_taken old + line_feeds bytes) → (end_told old ≡ true → end_told new ≡ true) → Hands device old bytes new
+    hands_by going came consumed counted input feeds told = record {
+      reads = reads_of came;
+      own = λ none failed. own_of came failed;
+      stops = λ some. absurd (no_fault (fault_kept old) going some);
+      left_over = consumed;
+      counted = counted;
+      same_input = input;
+      fed = feeds;
+      told_stays = told;
+    }
+
+    -- by reads that succeeded, and no fault is kept
+    pub hands_on : fault_kept old ≡ None → fault_kept new ≡ None → ReadsOn device.is_read (source_of old) bytes (source_of new) → Consumes (device.left (source_of old)) (device.left (source_of new)) bytes
+        → bytes_taken new ≡ bytes_taken old + length bytes → input_of new ≡ input_of old → (end_told new ≡ false → bytes_taken new < 2 ^ 63 → feeds_taken new ≡ feeds_taken old + line_feeds bytes)
+        → (end_told old ≡ true → end_told new ≡ true) → Hands device old bytes new
+    hands_on was is on = hands_by was (inl (on, λ failed. absurd (none_failed (fault_kept new) is failed)))
+
   -- nothing was handed over
   pub hands_still : (old new : LineReader S) → source_of new ≡ source_of old → bytes_taken new ≡ bytes_taken old → input_of new ≡ input_of old
-      → (end_told new ≡ false → feeds_taken new ≡ feeds_taken old) → (end_told old ≡ true → end_told new ≡ true) → (IsSome (fault_kept old) → IsSome (fault_kept new)) → Hands device old [] new
-  hands_still old new same taken input feeds told stays = record {
+      → (end_told new ≡ false → feeds_taken new ≡ feeds_taken old) → (end_told old ≡ true → end_told new ≡ true) → fault_kept new ≡ fault_kept old → Hands device old [] new
+  hands_still old new same taken input feeds told kept = record {
     reads = inl (reads_nothing device.is_read (source_of old) (source_of new) same);
-    stops = λ some. (refl, same, stays some);
+    own = λ none failed. absurd (none_failed (fault_kept new) (kept ∙ none) failed);
+    stops = λ some. (refl, same, kept);
     left_over = rw same (Consumes-nil (device.left (source_of old)));
     counted = taken ∙ sym (add-zero (bytes_taken old));
     same_input = input;
@@ -75,26 +112,59 @@ module _ {S : Type 0} (device : Source S) where
   }
 
   pub hands_none : (reader : LineReader S) → Hands device reader [] reader
-  hands_none reader = hands_still reader reader refl refl refl (λ e. refl) (λ e. e) (λ some. some)
+  hands_none reader = hands_still reader reader refl refl refl (λ e. refl) (λ e. e) refl
 
   -- one call after another
-  hands_joined : {old mid new : LineReader S} {first second : List ℕ} → Hands device old first mid → Hands device mid second new
-      → ReadsOn device.is_read (source_of old) (first ++ second) (source_of new) ⊎ (FailsAfter device.is_read (source_of old) (first ++ second) (source_of new) × IsSome (fault_kept new))
-  hands_joined {old} {mid} {new} {first} {second} p q = go p.reads q.reads
-    where
-      go : ReadsOn device.is_read (source_of old) first (source_of mid) ⊎ (FailsAfter device.is_read (source_of old) first (source_of mid) × IsSome (fault_kept mid))
-          → ReadsOn device.is_read (source_of mid) second (source_of new) ⊎ (FailsAfter device.is_read (source_of mid) second (source_of new) × IsSome (fault_kept new))
-          → ReadsOn device.is_read (source_of old) (first ++ second) (source_of new) ⊎ (FailsAfter device.is_read (source_of old) (first ++ second) (source_of new) × IsSome (fault_kept new))
-      go (inl one) (inl two) = inl (reads_then device.is_read one two)
-      go (inl one) (inr two) = inr (fails_later device.is_read one two.0, two.1)
-      go (inr one) two =
-          let ends = q.stops one.1 in
-          inr (rw (ends.0, ends.1, append-nil first) one.0, ends.2)
+  module _ {old mid new : LineReader S} {first second : List ℕ} (p : Hands device old first mid) (q : Hands device mid second new) where
+    -- if the first one ended with a fault, the second did nothing
+    joined_failed : IsSome (fault_kept mid) → FailsAfter device.is_read (source_of old) first (source_of mid) → FailsAfter device.is_read (source_of old) (first ++ second) (source_of new)
+    joined_failed some fails = let ends = q.stops some in rw (ends.0, ends.1, append-nil first) fails
+
+    some_failed : IsReadFailed (fault_kept mid) → IsSome (fault_kept mid)
+    some_failed failed = rw failed.2 refl
+
+    hands_joined : ReadsOn device.is_read (source_of old) (first ++ second) (source_of new) ⊎ (FailsAfter device.is_read (source_of old) (first ++ second) (source_of new) × IsReadFailed (fault_kept new))
+    hands_joined = go p.reads q.reads
+      where
+        go : ReadsOn device.is_read (source_of old) first (source_of mid) ⊎ (FailsAfter device.is_read (source_of old) first (source_of mid) × IsReadFailed (fault_kept mid))
+            → ReadsOn device.is_read (source_of mid) second (source_of new) ⊎ (FailsAfter device.is_read (source_of mid) second (source_of new) × IsReadFailed (fault_kept new))
+            → ReadsOn device.is_read (source_of old) (first ++ second) (source_of new) ⊎ (FailsAfter device.is_read (source_of old) (first ++ second) (source_of new) × IsReadFailed (fault_kept new))
+        go (inl one) (inl two) = inl (reads_then device.is_read one two)
+        go (inl one) (inr two) = inr (fails_later device.is_read one two.0, two.1)
+        go (inr one) two =
+            let some = some_failed one.1 in
+            inr (joined_failed some one.0, subst IsReadFailed (sym (q.stops some).2) one.1)
+
+    own_joined : fault_kept old ≡ None → IsReadFailed (fault_kept new) → FailsAfter device.is_read (source_of old) (first ++ second) (source_of new) ⊎ (2 ^ 63 ≤ bytes_taken new)
+    own_joined none failed = go (kept_or_none (fault_kept mid))
+      where
+        later : fault_kept mid ≡ None → ReadsOn device.is_read (source_of old) first (source_of mid) ⊎ (FailsAfter device.is_read (source_of old) first (source_of mid) × IsReadFailed (fault_kept mid))
+            → FailsAfter device.is_read (source_of mid) second (source_of new) ⊎ (2 ^ 63 ≤ bytes_taken new)
+            → FailsAfter device.is_read (source_of old) (first ++ second) (source_of new) ⊎ (2 ^ 63 ≤ bytes_taken new)
+        later going (inl one) (inl two) = inl (fails_later device.is_read one two)
+        later going (inl one) (inr past) = inr past
+        later going (inr one) two = absurd (none_failed (fault_kept mid) going one.1)
+
+        before : IsSome (fault_kept mid) → FailsAfter device.is_read (source_of old) first (source_of mid) ⊎ (2 ^ 63 ≤ bytes_taken mid)
+            → FailsAfter device.is_read (source_of old) (first ++ second) (source_of new) ⊎ (2 ^ 63 ≤ bytes_taken new)
+        before some (inl fails) = inl (joined_failed some fails)
+        before some (inr past) = inr (omega (arith, q.counted, past))
+
+        go : (fault_kept mid ≡ None) ⊎ IsSome (fault_kept mid) → FailsAfter device.is_read (source_of old) (first ++ second) (source_of new) ⊎ (2 ^ 63 ≤ bytes_taken new)
+        go (inl going) = later going p.reads (q.own going failed)
+        go (inr some) = before some (p.own none (subst IsReadFailed (q.stops some).2 failed))
+
+    stops_joined : IsSome (fault_kept old) → (first ++ second ≡ []) × (source_of new ≡ source_of old) × (fault_kept new ≡ fault_kept old)
+    stops_joined some =
+        let one = p.stops some in
+        let two = q.stops (subst (λ (o : Option FaultValue). IsSome o) (sym one.2) some) in
+        (rw (one.0, two.0) refl, two.1 ∙ one.1, two.2 ∙ one.2)
 
   pub hands_both : (old mid new : LineReader S) (first second : List ℕ) → Hands device old first mid → Hands device mid second new → Hands device old (first ++ second) new
   hands_both old mid new first second p q = record {
     reads = hands_joined p q;
-    stops = λ some. (let one = p.stops some in let two = q.stops one.2 in (rw (one.0, two.0) refl, two.1 ∙ one.1, two.2));
+    own = own_joined p q;
+    stops = stops_joined p q;
     left_over = Consumes-trans (device.left (source_of old)) (device.left (source_of mid)) (device.left (source_of new)) first second p.left_over q.left_over;
     counted = omega (arith, p.counted, q.counted, length-append first second);
     same_input = q.same_input ∙ p.same_input;
@@ -102,50 +172,23 @@ module _ {S : Type 0} (device : Source S) where
     told_stays = λ e. q.told_stays (p.told_stays e);
   }
 
--- ---- a reader of lines
+  -- if no failed read is kept, all reads succeeded
+  module _ {old new : LineReader S} {bytes : List ℕ} (hands : Hands device old bytes new) where
+    pub all_served : (IsReadFailed (fault_kept new) → ⊥) → ReadsOn device.is_read (source_of old) bytes (source_of new)
+    all_served never = go hands.reads
+      where
+        go : ReadsOn device.is_read (source_of old) bytes (source_of new) ⊎ (FailsAfter device.is_read (source_of old) bytes (source_of new) × IsReadFailed (fault_kept new)) → ReadsOn device.is_read (source_of old) bytes (source_of new)
+        go (inl on) = on
+        go (inr fails) = absurd (never fails.1)
 
-module _ {S : Type 0} (IsRead : S → Option (List ℕ) → S → Type 0) (old new : LineReader S) where
-  -- what was read between two readers, by how many bytes each has taken
-  pub has_read : (taken_old taken_new : ℕ) → bytes_taken old ≡ taken_old → bytes_taken new ≡ taken_new → ReadsCounted IsRead old.source taken_old new.source taken_new → HasRead IsRead old new
-  unfolding source_of
-  has_read taken_old taken_new was is counted = rw (was, is) counted
-
-  -- nothing was
-  pub reads_none : bytes_taken old ≡ old.taken → bytes_taken new ≡ new.taken → new.source ≡ old.source → new.taken ≡ old.taken → HasRead IsRead old new
-  reads_none was is same_source same_taken = has_read old.taken new.taken was is (counts_none IsRead old.source new.source old.taken new.taken same_source same_taken)
-
-  pub reads_same : new ≡ old → HasRead IsRead old new
-  reads_same same = counts_none IsRead (source_of old) (source_of new) (bytes_taken old) (bytes_taken new) (ap source_of same) (ap bytes_taken same)
-
-  -- a read failed
-  pub unread_by : ReadsFail IsRead old.source new.source → IsUnread IsRead old new
-  unfolding source_of
-  unread_by fails = inl fails
-
-module _ {S : Type 0} (IsRead : S → Option (List ℕ) → S → Type 0) (a b c : LineReader S) where
-  -- what was read, and then more
-  pub has_read_then : HasRead IsRead a b → HasRead IsRead b c → HasRead IsRead a c
-  has_read_then one two = counts_then IsRead (source_of a) (source_of b) (source_of c) (bytes_taken a) (bytes_taken b) (bytes_taken c) one two
-
-  pub unread_then : HasRead IsRead a b → IsUnread IsRead b c → IsUnread IsRead a c
-  unread_then one (inl fails) = inl (fails_then IsRead (source_of a) (source_of b) (source_of c) (bytes_taken a) (bytes_taken b) one fails)
-  unread_then one (inr past) = inr (has_read_then one past.0, past.1)
-
-module _ {S : Type 0} (IsRead : S → Option (List ℕ) → S → Type 0) (old new : LineReader S) where
-  -- a failed read is reported only if one failed
-  pub tells_unread : (fault : FaultValue) (input : Input) (line : ℕ) → fault ≡ read_failed input line → IsUnread IsRead old new → TellsReads IsRead old (Some fault) new
-  tells_unread fault input line is unread = record { unread = λ other at e. unread; read = λ never. absurd (never input line (ap Some is)) }
-
-  -- no failed read is reported, and all succeeded
-  pub tells_read : (fault : Option FaultValue) → ((input : Input) (line : ℕ) → fault ≡ Some (read_failed input line) → ⊥) → HasRead IsRead old new → TellsReads IsRead old fault new
-  tells_read fault never read = record { unread = λ input line e. absurd (never input line e); read = λ none. read }
-
-  pub tells_no_memory : (fault : FaultValue) → fault ≡ no_memory → HasRead IsRead old new → TellsReads IsRead old (Some fault) new
-  tells_no_memory fault is = tells_read (Some fault) (λ input line e. memory_no_read input line (sym is ∙ some_is fault (read_failed input line) e))
-
--- of reads, and then others
-pub tells_then : {S : Type 0} (IsRead : S → Option (List ℕ) → S → Type 0) (a b c : LineReader S) (fault : Option FaultValue) → HasRead IsRead a b → TellsReads IsRead b fault c → TellsReads IsRead a fault c
-tells_then IsRead a b c fault one two = record {
-  unread = λ input line e. unread_then IsRead a b c one (two.unread input line e);
-  read = λ never. has_read_then IsRead a b c one (two.read never);
-}
+    -- if one is, the last read failed, or too many bytes came
+    pub one_failed : fault_kept old ≡ None → IsReadFailed (fault_kept new)
+        → FailsAfter device.is_read (source_of old) bytes (source_of new) ⊎ (ReadsOn device.is_read (source_of old) bytes (source_of new) × (2 ^ 63 ≤ bytes_taken new))
+    one_failed none failed = go hands.reads (hands.own none failed)
+      where
+        go : ReadsOn device.is_read (source_of old) bytes (source_of new) ⊎ (FailsAfter device.is_read (source_of old) bytes (source_of new) × IsReadFailed (fault_kept new))
+            → FailsAfter device.is_read (source_of old) bytes (source_of new) ⊎ (2 ^ 63 ≤ bytes_taken new)
+            → FailsAfter device.is_read (source_of old) bytes (source_of new) ⊎ (ReadsOn device.is_read (source_of old) bytes (source_of new) × (2 ^ 63 ≤ bytes_taken new))
+        go (inr fails) own = inl fails.0
+        go (inl on) (inl fails) = inl fails
+        go (inl on) (inr past) = inr (on, past)

@@ -8,13 +8,13 @@ use Rattle.bt_lines.specs.model.Lines.{TextLine, fed_line, last_line, lines_from
 use Rattle.bt_lines.specs.model.Fault.{read_failed}
 use Rattle.bt_lines.specs.calls.Faults.{no_memory}
 use Rattle.bt_lines.specs.inside.Shape.{held_at, IsLast}
-use Rattle.bt_lines.proofs.lemmas.reader.block.ReadsLemmas.{hands_still, no_fault}
+use Rattle.bt_lines.proofs.lemmas.reader.block.ReadsLemmas.{Comes, hands_by, hands_on, hands_still, memory_failed}
 use Rattle.bt_lines.specs.calls.Device.{FailsAfter, ReadsOn}
 use Rattle.bt_lines.specs.inside.Spill.{Buffers, closed, uncounted}
 use Rattle.bt_lines.specs.calls.Output.{block_size}
-use Rattle.bt_lines.specs.calls.Line.{NoLineFeed, line_feeds}
+use Rattle.bt_lines.specs.calls.Line.{GivesFirst, NoLineFeed, line_feeds}
 use Rattle.bt_lines.specs.calls.Names.{fault_value}
-use Rattle.bt_lines.specs.calls.Reader.{FillsLines, IsKept, IsSound, buffered_bytes, Hands, HasRead, IsNear, FailsToRead, end_told, GivesLine, source_of, input_of, lines_given, bytes_taken, held, fault_kept, has_ended, bytes_left, feeds_taken}
+use Rattle.bt_lines.specs.calls.Reader.{FillsLines, IsKept, IsSound, buffered_bytes, Hands, IsNear, FailsToRead, end_told, GivesLine, source_of, input_of, lines_given, bytes_taken, held, fault_kept, has_ended, bytes_left, feeds_taken, lines_left}
 use Rattle.bt_lines.specs.declared.fault.Fault.{Fault}
 use Rattle.bt_lines.specs.declared.fault.Input.{Input}
 use Rattle.bt_lines.specs.declared.reader.spill.Stop.{Stop}
@@ -74,16 +74,34 @@ module _ {S : Type 0} (device : Source S) {old : LineReader S} (new : LineReader
   unfolding lines_given
   fed_below = omega (arith, new.a_byte_each, new.counted)
 
-  fed_hands : Hands device old bytes new
+  fed_feeds : feeds_taken new ≡ feeds_taken old + line_feeds bytes
   unfolding feeds_taken
-  fed_hands = grind (arith, line_feeds-append, line_feeds-fed, reads, no_fault)
+  fed_feeds = grind (arith, line_feeds-append, line_feeds-fed)
+
+  fed_hands : Hands device old bytes new
+  fed_hands = hands_on device old new bytes was.good is.good reads consumed (omega (arith, is.taken, was.taken, counted)) same (λ untold below. fed_feeds) (λ e. absurd (false≢true (sym was.untold ∙ e)))
 
   fed_held : held old ++ bytes ≡ spelled (fed_line (suc (lines_given old)) piece) ++ held new
   fed_held = grind (arith, (spelled-fed (suc (lines_given old)) piece), (append_assoc piece (10 ∷ []) (held new)))
 
-  pub gives_fed : GivesLine device old (fed_line (suc (lines_given old)) piece) new
+  fed_first : GivesFirst (lines_left device.left old) (fed_line (suc (lines_given old)) piece) (lines_left device.left new)
   unfolding bytes_left
-  gives_fed = grind (arith, fed_hands, fed_held, fed_below, fed_size, append_assoc, lines_from-fed)
+  fed_first = grind (arith, append_assoc, lines_from-fed)
+
+  pub gives_fed : GivesLine device old (fed_line (suc (lines_given old)) piece) new
+  gives_fed = record {
+    first = fed_first;
+    bytes = (bytes, fed_hands, fed_held);
+    ahead = near;
+    ready = ready;
+    number = refl;
+    counted = more;
+    below = fed_below;
+    shrinks = omega (arith, fed_size, is.taken, was.taken, counted, new.counted);
+    served = served;
+    was_going = (was.good, was.open_ended);
+    goes = is.good;
+  }
 
   pub sound_fed : IsKept device old → IsSound device new
   sound_fed h = grind arith
@@ -100,7 +118,7 @@ module _ {S : Type 0} (device : Source S) {old : LineReader S} (new : LineReader
   one = grind arith
 
   last_hands : Hands device old [] new
-  last_hands = hands_still device old new same_source (is.taken ∙ same_taken ∙ sym was.taken) same (λ e. absurd (false≢true (sym e ∙ is.is_told))) (λ e. is.is_told) (λ some. absurd (no_fault (fault_kept old) was.good some))
+  last_hands = hands_still device old new same_source (is.taken ∙ same_taken ∙ sym was.taken) same (λ e. absurd (false≢true (sym e ∙ is.is_told))) (λ e. is.is_told) (is.good ∙ sym was.good)
 
   last_held : held old ++ [] ≡ spelled line ++ held new
   last_held = grind (arith, common_steps)
@@ -123,9 +141,12 @@ module _ {S : Type 0} (device : Source S) (old new : LineReader S) (bytes : List
     (taken : bytes_taken new ≡ bytes_taken old + length bytes) (holds : held new ≡ held old ++ bytes) (good : fault_kept new ≡ None)
     (ready : 0 < line_feeds (held old) → source_of new ≡ source_of old) (served : device.has_failed (source_of new) ≡ device.has_failed (source_of old))
     (some : 0 < length (buffered_bytes new)) (within : bytes_taken new < 2 ^ 63) (empty : buffered_bytes old ≡ []) where
-  made_hands : Hands device old bytes new
+  made_feeds : feeds_taken new ≡ feeds_taken old + line_feeds bytes
   unfolding feeds_taken
-  made_hands = grind (arith, line_feeds-append, reads, no_fault)
+  made_feeds = grind (arith, line_feeds-append)
+
+  made_hands : Hands device old bytes new
+  made_hands = hands_on device old new bytes was.good good reads consumed taken same (λ untold below. made_feeds) (λ e. absurd (false≢true (sym was.untold ∙ e)))
 
   pub makes_line : end_told new ≡ false → FillsLines device old (Ok true) new
   unfolding bytes_left
@@ -141,9 +162,12 @@ module _ {S : Type 0} (device : Source S) (old new : LineReader S) (bytes : List
     (same : input_of new ≡ input_of old) (same_lines : lines_given new ≡ lines_given old) (consumed : Consumes (device.left (source_of old)) (device.left (source_of new)) bytes) (reads : ReadsOn device.is_read (source_of old) bytes (source_of new))
     (counted : new.taken ≡ old.taken + length bytes) (nothing : held old ++ bytes ≡ []) (gone : held new ≡ [])
     (served : device.has_failed (source_of new) ≡ device.has_failed (source_of old)) (told : device.end_told (source_of new) ≡ true) (none : IsAtEnd (device.left (source_of new))) (ended : has_ended new ≡ true) (empty : buffered_bytes old ≡ []) where
+  end_hands : Hands device old bytes new
+  end_hands = hands_on device old new bytes was.good is.good reads consumed (omega (arith, is.taken, was.taken, counted)) same (λ untold below. absurd (false≢true (sym untold ∙ is.is_told))) (λ e. is.is_told)
+
   pub fills_end : FillsLines device old (Ok false) new
   unfolding bytes_left
-  fills_end = grind (arith, append-nil, lines_from-nil, reads, no_fault)
+  fills_end = grind (arith, append-nil, lines_from-nil, end_hands)
 
 -- ---- a line that couldn't be given
 
@@ -162,7 +186,7 @@ pub record CutLine {S : Type 0} (device : Source S) (old new : LineReader S) (by
   pub same : input_of new ≡ input_of old
   pub same_lines : lines_given new ≡ lines_given old
   pub consumed : Consumes (device.left (source_of old)) (device.left (source_of new)) bytes
-  pub reads : ReadsOn device.is_read (source_of old) bytes (source_of new) ⊎ FailsAfter device.is_read (source_of old) bytes (source_of new)
+  pub came : Comes device old bytes new
   pub counted : bytes_taken new ≡ bytes_taken old + length bytes
   pub joined : held old ++ bytes ≡ text ++ behind
   pub clear : NoLineFeed text
@@ -173,14 +197,12 @@ pub record CutLine {S : Type 0} (device : Source S) (old new : LineReader S) (by
   pub empty : buffered_bytes old ≡ []
 
 module _ {S : Type 0} {device : Source S} {old new : LineReader S} {bytes text behind : List ℕ} {fault : Fault} (line : CutLine device old new bytes text behind fault) where
-  cut_reads : ReadsOn device.is_read (source_of old) bytes (source_of new) ⊎ FailsAfter device.is_read (source_of old) bytes (source_of new)
-      → ReadsOn device.is_read (source_of old) bytes (source_of new) ⊎ (FailsAfter device.is_read (source_of old) bytes (source_of new) × IsSome (fault_kept new))
-  cut_reads (inl on) = inl on
-  cut_reads (inr fails) = inr (fails, rw line.kept refl)
+  cut_feeds : bytes_taken new < 2 ^ 63 → feeds_taken new ≡ feeds_taken old + line_feeds bytes
+  unfolding feeds_taken
+  cut_feeds below = omega (arith, line.same_lines, line.holds below)
 
   cut_hands : Hands device old bytes new
-  unfolding feeds_taken
-  cut_hands = grind (arith, (cut_reads line.reads), no_fault)
+  cut_hands = hands_by device old new bytes line.was.good line.came line.consumed line.counted line.same (λ untold. cut_feeds) (λ e. absurd (false≢true (sym line.was.untold ∙ e)))
 
   cut_near : IsNear device.left old new
   unfolding bytes_left
@@ -226,11 +248,6 @@ module _ {S : Type 0} {device : Source S} (old new : LineReader S) (going : old.
   unfolding source_of input_of lines_given held has_ended
   end_step is empty state = let b = rw is at buffers in grind (arith, goes, fills_end, told_ended, nothing_buffered, b.handed)
 
-  -- the reads of the step, if all succeeded
-  pub read_step : ReadsOn device.is_read old.source buffers.bytes new.source → bytes_taken new ≡ new.taken + uncounted stop → HasRead device.is_read old new
-  unfolding source_of
-  read_step reads is = rw (goes old going).taken (record { bytes = buffers.bytes; served = reads; counted = is ∙ buffers.counted })
-
   no_feeds : (stop ≡ StopLineFeed → ⊥) → line_feeds (held old) ≡ 0
   no_feeds other = rw old_holds (grind arith)
 
@@ -259,7 +276,7 @@ module _ {S : Type 0} {device : Source S} (old new : LineReader S) (going : old.
           same = same;
           same_lines = same_lines;
           consumed = b.consumed;
-          reads = inr b.handed;
+          came = inr (b.handed, (old.input, suc old.lines, rw (state, same, same_lines) refl));
           counted = rw (state, was.taken) counted;
           joined = sym (append-nil (held old ++ b.bytes));
           clear = clear;
@@ -289,7 +306,7 @@ module _ {S : Type 0} {device : Source S} (old new : LineReader S) (going : old.
           same = same;
           same_lines = same_lines;
           consumed = b.consumed;
-          reads = inl b.handed;
+          came = inl (b.handed, λ failed. rw state (omega (arith, b.stopped.3)));
           counted = rw (state, was.taken) counted;
           joined = joined;
           clear = cut.2;
@@ -318,7 +335,7 @@ module _ {S : Type 0} {device : Source S} (old new : LineReader S) (going : old.
           same = same;
           same_lines = same_lines;
           consumed = b.consumed;
-          reads = inl b.handed;
+          came = inl (b.handed, λ failed. absurd (memory_failed (fault_kept new) (rw state refl) failed));
           counted = rw (state, was.taken) (omega (arith, b.counted));
           joined = joined;
           clear = cut.1;

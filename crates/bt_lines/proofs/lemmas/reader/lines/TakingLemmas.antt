@@ -3,7 +3,6 @@ use Rattle.bt_lines.proofs.Std.{common_steps, ◌≡◌, ◌⊎◌, inl, inr, �
 use Rattle.bt_lines.specs.declared.device.Source.{Ghosts as Source}
 use Rattle.bt_lines.proofs.lemmas.reader.block.BufferLemmas.{fed_clear, fed_drop, fed_last, fed_none, unread_fits}
 use Rattle.bt_lines.proofs.lemmas.reader.block.ReadsLemmas.{hands_still}
-use Rattle.bt_lines.specs.model.Fault.{FaultValue}
 use Rattle.bt_lines.proofs.lemmas.reader.lines.BufferedLemmas.{are_fed, lines_fit}
 use Rattle.bt_lines.proofs.lemmas.reader.lines.TextLemmas.{lines_from-fed, lines_from-last, lines_from-nil, by_lines, bytes_in-drop, bytes_in-lines, lines_are_numbered, whole_lines_from-last, line_feeds-append, line_feeds-fed, whole_count, whole_front}
 use Rattle.bt_lines.specs.calls.Reader.{buffered_lines, DropsLines, Hands, IsKept, IsPrefix, TakesLines, bytes_taken, buffered_in, fault_kept, feeds_taken, has_ended, input_of, buffered_bytes, bytes_left, is_open, end_told, held, left_at, lines_given, lines_left, source_of, IsSound}
@@ -203,7 +202,7 @@ module _ {S : Type 0} (device : Source S) (old new : LineReader S) (n : ℕ) (ta
 
   -- nothing is handed over
   hands_taken : Hands device old [] new
-  hands_taken = hands_still device old new sources same_bytes inputs feeds_kept (λ e. told_taken ∙ e) (λ some. subst (λ (o : Option FaultValue). IsSome o) (sym fault_taken) some)
+  hands_taken = hands_still device old new sources same_bytes inputs feeds_kept (λ e. told_taken ∙ e) fault_taken
 
   -- and so much less is held
   held_taken : length (held new) + line_feeds (take n (complete old.buffer)) ≤ length (held old)

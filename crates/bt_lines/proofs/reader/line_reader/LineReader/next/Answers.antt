@@ -1,10 +1,9 @@
 use Rattle.bt_lines.proofs.Std.{arith, ◌≡◌, ◌∙◌, ◌+◌, ◌∷◌, ◌++◌, Bool, None, Ok, Result, Some, ap, length, nat_lt, refl, sym, true}
 use Rattle.bt_lines.proofs.lemmas.reader.block.BufferLemmas.{fed_clear, gone_front, gone_size}
 use Rattle.bt_lines.proofs.lemmas.reader.block.FillLemmas.{is_made, next_by, passes_on, stops_by}
-use Rattle.bt_lines.proofs.lemmas.reader.block.ReadsLemmas.{counts_none}
 use Rattle.bt_lines.proofs.lemmas.reader.lines.BufferedLemmas.{are_fed, begins_first, cut_within, cuts_first, last_cut, quiet_cut, spaced_cut, text_within}
 use Rattle.bt_lines.specs.calls.Line.{ending_at, line_shown}
-use Rattle.bt_lines.specs.calls.Reader.{buffered_bytes, bytes_taken, source_of}
+use Rattle.bt_lines.specs.calls.Reader.{buffered_bytes, source_of}
 use Rattle.bt_lines.specs.declared.fault.Fault.{Fault}
 use Rattle.bt_lines.specs.inside.ReadBuffer.{complete, gone}
 use Rattle.bt_lines.proofs.reader.line_reader.LineReader.next.Goals as goal
@@ -12,7 +11,7 @@ use Rattle.bt_lines.proofs.reader.line_reader.LineReader.next.Goals as goal
 pub returns-in_err-fill : goal.returns-in_err-fill
 returns-in_err-fill g c =
     let ensures = c.in_err-fill.ensures in
-    let stops = stops_by g.S.Source c.args.self.now c.fill.new.self c.in_err-fill.field-0.0 ensures.fills ensures.own_failure ensures.memory in
+    let stops = stops_by g.S.Source c.args.self.now c.fill.new.self c.in_err-fill.field-0.0 ensures.fills ensures.memory in
     ((refl, λ reader. tt, passes_on g.S.Source c.args.self.now c.fill.new.self c.from_residual.result c.in_err-fill.field-0.0 c.from_residual.ensures.1 stops), record { after = tt })
 
 pub returns-in_default : goal.returns-in_default
@@ -53,7 +52,7 @@ consumed-requires-clause-size g c =
     gone_size _ (gone mid.buffer) (complete mid.buffer) c.in-Some.field-0.size c.consume.ensures.gone (cut_within _ _ cut)
 
 pub returns : goal.returns
-unfolding buffered_bytes source_of bytes_taken
+unfolding buffered_bytes source_of
 returns g c =
     let mid = c.fill.new.self in
     let cut = begins_first c.buffered.result _ _ _ (Some (line_shown c.in-Some.field-0)) c.buffered.ensures.begins c.in-Some.ensures.cut in
@@ -66,9 +65,8 @@ returns g c =
       (
         refl,
         λ reader. tt,
-        next_by g.S.Source c.args.self.now mid _ c.fill.result _ made c.fill.ensures.fills c.fill.ensures.own_failure
-            (cuts_first g.S.Source mid _ (mid.lines + 1) c.consumed.result.now c.ending_of-ending.result refl refl refl refl refl cut c.consume.ensures.lines c.consume.ensures.unread c.consume.ensures.spilled refl text ending)
-            (counts_none g.S.Source.is_read _ _ _ _ refl refl),
+        next_by g.S.Source c.args.self.now mid _ c.fill.result _ made c.fill.ensures.fills
+            (cuts_first g.S.Source mid _ (mid.lines + 1) c.consumed.result.now c.ending_of-ending.result refl refl refl refl refl cut c.consume.ensures.lines c.consume.ensures.unread c.consume.ensures.spilled refl text ending),
       ),
       record { after = tt },
     )

@@ -1,9 +1,9 @@
 use Rattle.bt_lines.proofs.Std.{common_steps, arith}
-use Rattle.bt_lines.proofs.Std.{◌∙◌, ◌++◌, add-one, add-zero, ap, inr, eqb, length, refl, sym, eqb-true, false≢true}
-use Rattle.bt_lines.specs.calls.Reader.{bytes_taken, fault_kept, input_of, lines_given}
+use Rattle.bt_lines.proofs.Std.{◌∙◌, ◌++◌, ap, eqb, length, refl, sym, eqb-true, false≢true}
+use Rattle.bt_lines.specs.calls.Reader.{fault_kept, input_of, lines_given}
 use Rattle.bt_lines.specs.inside.ReadBuffer.{complete, unread}
-use Rattle.bt_lines.proofs.lemmas.reader.lines.StepLemmas.{goes, told_ended, told_last, read_step, last_closed, last_going, last_of_none, quiet_going, spaced, spaced_fault, spaced_last, line_step, last_step, end_step, failed_step, long_step, refused_step}
-use Rattle.bt_lines.proofs.lemmas.reader.block.ReadsLemmas.{some_is, tells_no_memory, tells_unread, unread_by}
+use Rattle.bt_lines.proofs.lemmas.reader.lines.StepLemmas.{last_closed, last_going, last_of_none, quiet_going, spaced, spaced_fault, spaced_last, line_step, last_step, end_step, failed_step, long_step, refused_step}
+use Rattle.bt_lines.proofs.lemmas.reader.block.ReadsLemmas.{some_is}
 use Rattle.bt_lines.proofs.reader.line_reader.LineReader.read_more.Goals as goal
 
 pub invariant_of-self : goal.invariant_of-self
@@ -69,38 +69,3 @@ pub returns-in-NoMemory-clause-fills : goal.returns-in-NoMemory-clause-fills
 unfolding fault_kept
 returns-in-NoMemory-clause-fills g c =
     refused_step c.args.self.now _ c.requires.going c.requires.none refl refl c.in-NoMemory.ensures.buffers c.fault-in-NoMemory.result refl (sym (some_is _ _ c.fault-in-NoMemory.ensures)) refl
-
-pub returns-in-LineFeed-clause-own_failure : goal.returns-in-LineFeed-clause-own_failure
-returns-in-LineFeed-clause-own_failure g c =
-    let b = c.in-LineFeed.ensures.buffers in
-    read_step c.args.self.now _ c.requires.going c.requires.none refl refl b b.handed ((goes _ c.requires.going).taken ∙ sym (add-zero _))
-
-pub returns-in-End-clause-own_failure : goal.returns-in-End-clause-own_failure
-returns-in-End-clause-own_failure g c =
-    let b = c.in-End.ensures.buffers in
-    read_step c.args.self.now _ c.requires.going c.requires.none refl refl b b.handed ((told_ended _ refl).taken ∙ sym (add-zero _))
-
-pub returns-in-End-2-clause-own_failure : goal.returns-in-End-2-clause-own_failure
-returns-in-End-2-clause-own_failure g c =
-    let b = c.in-End.ensures.buffers in
-    read_step c.args.self.now _ c.requires.going c.requires.none refl refl b b.handed ((told_last _ refl).taken ∙ sym (add-zero _))
-
-pub returns-in-Failed-clause-own_failure : goal.returns-in-Failed-clause-own_failure
-unfolding fault_kept
-returns-in-Failed-clause-own_failure g c =
-    let b = c.in-Failed.ensures.buffers in
-    λ going. tells_unread g.S.Source.is_read c.args.self.now _ _ _ _ (sym (some_is _ _ c.fault.ensures)) (unread_by g.S.Source.is_read c.args.self.now _ (b.bytes, b.handed))
-
-pub returns-in-TooLong-clause-own_failure : goal.returns-in-TooLong-clause-own_failure
-unfolding fault_kept bytes_taken
-returns-in-TooLong-clause-own_failure g c =
-    let b = c.in-TooLong.ensures.buffers in
-    λ going. tells_unread g.S.Source.is_read c.args.self.now _ _ _ _ (sym (some_is _ _ c.fault-in-TooLong.ensures))
-    (inr (read_step c.args.self.now _ c.requires.going c.requires.none refl refl b b.handed (sym (add-one _)), omega (arith, b.stopped.3)))
-
-pub returns-in-NoMemory-clause-own_failure : goal.returns-in-NoMemory-clause-own_failure
-unfolding fault_kept bytes_taken
-returns-in-NoMemory-clause-own_failure g c =
-    let b = c.in-NoMemory.ensures.buffers in
-    λ going. tells_no_memory g.S.Source.is_read c.args.self.now _ _ (sym (some_is _ _ c.fault-in-NoMemory.ensures))
-    (read_step c.args.self.now _ c.requires.going c.requires.none refl refl b b.handed (sym (add-zero _)))

@@ -1,7 +1,5 @@
 use Rattle.bt_lines.proofs.Std.{refl}
 use Rattle.bt_lines.proofs.lemmas.reader.block.FillLemmas.{fails_again, fills_after_last, fills_again}
-use Rattle.bt_lines.proofs.lemmas.reader.block.ReadsLemmas.{reads_none, reads_same}
-use Rattle.bt_lines.proofs.lemmas.reader.lines.StepLemmas.{told_ended, told_last}
 use Rattle.bt_lines.proofs.reader.line_reader.LineReader.read_on.Goals as goal
 
 pub returns-in-LastLine-clause-fills : goal.returns-in-LastLine-clause-fills
@@ -9,13 +7,6 @@ returns-in-LastLine-clause-fills g c = fills_after_last _ c.args.self.now _ c.re
 
 pub returns-in-Ended-clause-fills : goal.returns-in-Ended-clause-fills
 returns-in-Ended-clause-fills g c = fills_again _ c.args.self.now c.requires c.in-Ended.is
-
-pub returns-in-LastLine-clause-own_failure : goal.returns-in-LastLine-clause-own_failure
-returns-in-LastLine-clause-own_failure g c =
-    reads_none g.S.Source.is_read c.args.self.now _ (told_last c.args.self.now c.in-LastLine.is).taken (told_ended _ refl).taken refl refl
-
-pub returns-in-Ended-clause-own_failure : goal.returns-in-Ended-clause-own_failure
-returns-in-Ended-clause-own_failure g c = reads_same g.S.Source.is_read c.args.self.now c.args.self.now refl
 
 pub returns-in-ReadFailed-clause-fills : goal.returns-in-ReadFailed-clause-fills
 returns-in-ReadFailed-clause-fills g c = fails_again g.S.Source c.args.self.now c.fault.result c.fault.ensures
