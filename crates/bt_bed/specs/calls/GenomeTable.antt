@@ -13,7 +13,7 @@ use Rattle.bt_lines.specs.declared.fault.Kind.TheVariants.{TooFewColumns, EmptyN
 use Rattle.bt_bed.specs.model.Genome.{Entry, entry_of, genome_names, genome_of, new_entry}
 use Rattle.bt_bed.specs.model.BedLine.{fault_at_line}
 use Rattle.bt_bed.specs.calls.Orders.{AreDistinct}
-use Rattle.bt_bed.specs.calls.Reading.{ReadingFails, MemoryRanOut, TellsOwnFailure}
+use Rattle.bt_bed.specs.calls.Reading.{ReadingFails, MemoryRanOut}
 use Rattle.bt_bed.specs.declared.order.entry.EntryRef.{EntryRef}
 use Rattle.bt_bed.specs.declared.order.genome.Genome.{Genome}
 
@@ -116,5 +116,4 @@ module _ {S : Type 0} where
   pub record ReadsGenome (device : Source S) (old : LineReader S)
       (answer : Result Genome Fault) (new : LineReader S) : Type 0 where
     pub answers : GenomeAnswers device old answer new
-    pub own_failure : TellsOwnFailure device.is_read (fault_kept old) old answer new
     pub sound : IsSound device old → IsSound device new

@@ -6,7 +6,7 @@ use Rattle.bt_lines.specs.calls.Faults.{no_memory}
 use Rattle.bt_lines.specs.model.Lines.{TextLine}
 use Rattle.bt_lines.specs.calls.Names.{fault_value}
 use Rattle.bt_lines.specs.calls.Output.{block_size}
-use Rattle.bt_lines.specs.calls.Reader.{CutsOff, Hands, HasRead, IsKept, IsNear, TellsReads, end_told, held, input_of, source_of, lines_given, bytes_taken, has_ended, lines_left, room as line_room, fault_kept as line_fault}
+use Rattle.bt_lines.specs.calls.Reader.{CutsOff, Hands, IsKept, IsNear, IsReadFailed, end_told, held, input_of, source_of, lines_given, bytes_taken, has_ended, lines_left, room as line_room, fault_kept as line_fault}
 use Rattle.bt_lines.specs.declared.fault.Fault.{Fault}
 use Rattle.bt_lines.specs.declared.fault.Input.{Input}
 use Rattle.bt_lines.specs.declared.fault.Kind.{Kind}
@@ -106,25 +106,18 @@ module _ {S : Type 0} where
   pub record ReadingFails (device : Source S)
       (old new : LineReader S) (fault : FaultValue) : Type 0 where
     pub is : fault ≡ read_failed (input_of old) (suc (lines_given new))
+    pub kept : line_fault new ≡ Some fault
     pub cause : (device.has_failed (source_of new) ≡ true) ⊎ (2 ^ 63 ≤ bytes_taken new)
     -- it comes before the end
     pub before_end : end_told old ≡ false
     -- the complete lines among the bytes taken in the call are those that were given
     pub cut : IsKept device old → CutsOff device old new
 
-  -- A failed read is reported for the first time only if a read of this call failed, or if the text is
-  -- too long by what its reads gave. What the source did before doesn't matter. Else all reads of the
-  -- call succeeded.
-  abbrev pub TellsOwnFailure : {T : Type 0} → (S → Option (List ℕ) → S → Type 0) → Option FaultValue
-      → LineReader S → Result T Fault → LineReader S → Type 0
-  TellsOwnFailure IsRead before old (Ok done) new = HasRead IsRead old new
-  TellsOwnFailure IsRead before old (Err fault) new = before ≡ None
-      → TellsReads IsRead old (Some (fault_value fault)) new
-
-  -- memory ran out
+  -- memory ran out, and no failed read is kept
   pub record MemoryRanOut (failed : S → Bool) (old new : LineReader S) (fault : FaultValue) : Type 0 where
     pub is : fault ≡ no_memory
     pub served : failed (source_of new) ≡ failed (source_of old)
+    pub no_read : IsReadFailed (line_fault new) → ⊥
 
 module _ {S A State : Type 0} where
   -- the member ahead, once it is known

@@ -18,7 +18,7 @@ use Rattle.bt_lines.specs.declared.reader.line_reader.LineReader.{LineReader}
 use Rattle.bt_bed.specs.model.Good.{Member, or_else, bed_format, line_says, locus_at}
 use Rattle.bt_bed.specs.inside.OrderedLookahead.{IsElsewhere, KeepsLast, ahead_of, last_in, name_in, start_in as kept_start}
 use Rattle.bt_bed.specs.model.Sorted.{Locus, Sorting, falls_in}
-use Rattle.bt_bed.specs.calls.Reading.{AnswersFault, EndsMembers, FillAnswers, GivesMember, IsLost, IsSaidBehind, MemberReader, Takes, TellsOwnFailure, ahead_in, good_coming}
+use Rattle.bt_bed.specs.calls.Reading.{AnswersFault, EndsMembers, FillAnswers, GivesMember, IsLost, IsSaidBehind, MemberReader, Takes, ahead_in, good_coming}
 use Rattle.bt_bed.specs.declared.record.bed.BedRef.{BedRef}
 use Rattle.bt_bed.specs.declared.read.sorted.Sorted.{Ghosts as SortedGhosts}
 use Rattle.bt_bed.specs.declared.read.sorted_reader.SortedReader.{SortedReader}
@@ -167,7 +167,6 @@ module _ {S : Type 0} (device : Source S) (Next : Feature → Type 0) (Keeps : T
     pub answers : FillAnswers device old answer new
     -- the record ahead, if there is one, is one that a line can say, and comes next
     pub next : IfSome (ahead_in new) (λ m. IsFeature m.item × Next m.item)
-    pub own_failure : TellsOwnFailure device.is_read old.fault old.below answer new.below
     pub for_name : RunsOutForName device old answer new.below
     pub kept : IsKept device old.below → IsKept device new.below
     pub order : Keeps
@@ -183,7 +182,6 @@ module _ {S : Type 0} (device : Source S) (Next : Feature → Type 0) (Keeps : T
   pub record PeeksSorted (answer : Result (Option BedRef) Fault) : Type 0 where
     pub answers : PeekAnswers answer
     pub next : IfSome (ahead_in new) (λ m. IsFeature m.item × Next m.item)
-    pub own_failure : TellsOwnFailure device.is_read old.fault old.below answer new.below
     pub for_name : RunsOutForName device old answer new.below
     pub kept : IsKept device old.below → IsKept device new.below
     pub order : Keeps

@@ -28,11 +28,11 @@ pub(crate) struct SortedReader<S, Q> {
 #[tactic(auto, unfolding(crate::specs::calls::SortedReader::view_with, crate::specs::calls::SortedReader::buffered_in))]
 impl<S: Source, Q: Sorted + Drop> SortedReader<S, Q> {
     ghost use Rattle.std.specs.Prelude.{◌≡◌, ◌+◌, ◌<◌, ◌∷◌, [], List, None, Ok, false, true, IfSome, IfNone, length, take};
-    ghost use Rattle.bt_lines.specs.calls.Reader.{buffered_bytes, fault_kept as line_fault, lines_given};
+    ghost use Rattle.bt_lines.specs.calls.Reader.{buffered_bytes, lines_given};
     ghost use Rattle.bt_bed.specs.calls.Bed.{feature_lent};
     ghost use Rattle.bt_bed.specs.model.Feature.{Feature};
     ghost use Rattle.bt_bed.specs.inside.OrderedLookahead.{IsKnownLast, last_in};
-    ghost use Rattle.bt_bed.specs.calls.Reading.{Fills, Takes, TellsOwnFailure};
+    ghost use Rattle.bt_bed.specs.calls.Reading.{Fills, Takes};
     ghost use Rattle.bt_bed.specs.calls.SortedReader.{IsPlaced, IsPlacedBy, IsTaken, Lends, RunsOutForName, TakesFirst, buffered_in, count_in, fault_in, sorting_in, view_by, view_with};
 
     // No record yet.
@@ -57,8 +57,6 @@ impl<S: Source, Q: Sorted + Drop> SortedReader<S, Q> {
         requires { IsPlacedBy Q.Sorted self.old self.old }
         ensures rule { self.new.lookahead.rule ≡ self.old.lookahead.rule }
         ensures fills { Fills S.Source (view_by Q.Sorted self.old self.old) result (view_by Q.Sorted self.old self.new) }
-        ensures own_failure { TellsOwnFailure S.is_read
-            (view_by Q.Sorted self.old self.old).fault self.old.reader result self.new.reader }
         ensures for_name { RunsOutForName S.Source (view_by Q.Sorted self.old self.old) result self.new.reader }
         ensures placed { IsPlacedBy Q.Sorted self.old self.new }
     {
@@ -134,8 +132,6 @@ impl<S: Source, Q: Sorted + Drop> SortedReader<S, Q> {
         requires placed { IsPlacedBy Q.Sorted self.old self.old }
         ensures rule { self.new.lookahead.rule ≡ self.old.lookahead.rule }
         ensures fills { Fills S.Source (view_by Q.Sorted self.old self.old) result (view_by Q.Sorted self.old self.new) }
-        ensures own_failure { TellsOwnFailure S.is_read
-            (view_by Q.Sorted self.old self.old).fault self.old.reader result self.new.reader }
         ensures for_name { RunsOutForName S.Source (view_by Q.Sorted self.old self.old) result self.new.reader }
         ensures placed { IsPlacedBy Q.Sorted self.old self.new }
     {
@@ -161,8 +157,6 @@ impl<S: Source, Q: Sorted + Drop> SortedReader<S, Q> {
         ensures none { self.new.is_ahead ≡ true → result ≡ Ok true }
         ensures fills { Fills S.Source (view_by Q.Sorted self.old self.old) result
             (view_with (sorting_in Q.Sorted self.old.lookahead) (fault_in result) self.new.reader self.new.lookahead (buffered_in self.new)) }
-        ensures own_failure { TellsOwnFailure S.is_read (line_fault self.old.reader) self.old.reader result
-            self.new.reader }
         ensures for_name { RunsOutForName S.Source (view_by Q.Sorted self.old self.old) result self.new.reader }
         ensures placed { IsPlaced (sorting_in Q.Sorted self.old.lookahead)
             (view_with (sorting_in Q.Sorted self.old.lookahead) (fault_in result) self.new.reader self.new.lookahead (buffered_in self.new)) }

@@ -146,16 +146,18 @@ module _ {S : Type 0} where
     -- without a fault, at most a block is held after the lines given
     pub near : fault_kept reader ≡ None → length (held reader) ≤ block_size
 
+  -- Whatever the source, these bytes came by reads that succeeded: too many of them if a failed read is kept since then.
+  -- Or they came by others and one that failed, the last one, and a failed read is kept.
+  unfoldable pub AreRead : Source S → LineReader S → List ℕ → LineReader S → Type 0
+  AreRead device old bytes new =
+      (ReadsOn device.is_read (source_of old) bytes (source_of new)
+      × (fault_kept old ≡ None → IsReadFailed (fault_kept new) → 2 ^ 63 ≤ bytes_taken new))
+      ⊎ (FailsAfter device.is_read (source_of old) bytes (source_of new) × IsReadFailed (fault_kept new))
+
   -- the source handed over these bytes in the call
   pub record Hands (device : Source S) (old : LineReader S) (bytes : List ℕ)
       (new : LineReader S) : Type 0 where
-    -- whatever the source: by reads that succeeded, or by others and one that failed, the last one, and a failed read
-    -- is kept
-    pub reads : ReadsOn device.is_read (source_of old) bytes (source_of new)
-        ⊎ (FailsAfter device.is_read (source_of old) bytes (source_of new) × IsReadFailed (fault_kept new))
-    -- a failed read that is kept since then is one of these, or the text is too long
-    pub own : fault_kept old ≡ None → IsReadFailed (fault_kept new)
-        → FailsAfter device.is_read (source_of old) bytes (source_of new) ⊎ (2 ^ 63 ≤ bytes_taken new)
+    pub reads : AreRead device old bytes new
     -- after a fault nothing is read, and it is kept
     pub stops : IsSome (fault_kept old)
         → (bytes ≡ []) × (source_of new ≡ source_of old) × (fault_kept new ≡ fault_kept old)

@@ -14,7 +14,7 @@ use Rattle.bt_lines.specs.declared.fault.Place.{Place}
 use Rattle.bt_bed.specs.calls.Reading.{IsLost, LinesPass}
 use Rattle.bt_bed.specs.model.BedLine.{fault_at_line}
 use Rattle.bt_lines.specs.declared.device.Source.{Ghosts as Source}
-use Rattle.bt_lines.proofs.lemmas.reader.block.ReadsLemmas.{hands_none, hands_both}
+use Rattle.bt_lines.proofs.lemmas.reader.block.ReadsLemmas.{hands_none, hands_both, memory_failed, none_failed}
 use Rattle.bt_lines.proofs.lemmas.reader.lines.TakingLemmas.{given_drops, sound_near, taken_below, not_told}
 use Rattle.bt_lines.proofs.lemmas.reader.lines.TextLemmas.{line_feeds-append}
 use Rattle.bt_lines.specs.calls.Output.{block_size}
@@ -378,13 +378,14 @@ module _ {S : Type 0} (device : Source S) (old : LineReader S) where
   stops_by now new genome fault g gives going (inl fails) = inr (inl (record {
     fails = record {
       is = fails.is ∙ ap (λ i. read_failed i (suc (lines_given now))) (same_input now genome g) ∙ ap (λ n. read_failed (input_of old) (suc n)) (sym gives.counted);
+      kept = gives.kept;
       cause = fails.cause;
       before_end = not_told (end_told old) (end_told now) g.passed.bytes.1.told_stays (gives.before_end going);
       cut = λ kept. cut_fault device old now new g.passed fault gives going fails.is;
     };
     passed = rw gives.counted (given_entries (input_of old) (lines_left device.left old) (lines_left device.left now) (lines_given old) (lines_given now) (entries genome) g.continues);
   }))
-  stops_by now new genome fault g gives going (inr is) = inr (inr (record { is = is; served = gives.served is ∙ g.served }))
+  stops_by now new genome fault g gives going (inr is) = inr (inr (record { is = is; served = gives.served is ∙ g.served; no_read = memory_failed (fault_kept new) (gives.kept ∙ ap Some is) }))
 
   pub going_fault : (now new : LineReader S) (genome : Genome) (fault : FaultValue) → Going device old now genome → GivesFault device now fault new → ReadingStops device old new fault
   going_fault now new genome fault g gives = record {
@@ -418,7 +419,7 @@ module _ {S : Type 0} (device : Source S) (old : LineReader S) where
       let more = continues_line (input_of old) (lines_left device.left old) (lines_left device.left now) (lines_left device.left next) (lines_given old) (entries genome) line g.continues gives.first gives.counted unkept.says in
       record {
         again = λ before e. cc;
-        first = λ going. inr (inr (record { is = unkept.is; served = gives.served ∙ g.served }));
+        first = λ going. inr (inr (record { is = unkept.is; served = gives.served ∙ g.served; no_read = none_failed (fault_kept next) gives.goes }));
         checked = none_wrong (input_of old) (lines_left device.left old) (lines_left device.left next) (lines_given old) (lines_given next) (entries genome ++ unkept.item ∷ []) fault more;
         bytes = both now next g.passed.bytes (gives.bytes.0, gives.bytes.1);
         near = λ none was. near_line device old next (passed_line device old now next g.passed line gives sound) gives.goes was;

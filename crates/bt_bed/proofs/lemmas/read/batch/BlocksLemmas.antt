@@ -10,7 +10,7 @@ use Rattle.bt_bed.specs.calls.SortedReader.{RunsOutForName, buffered_in as recor
 use Rattle.bt_bed.specs.model.Feature.{Feature}
 use Rattle.bt_bed.specs.calls.Features.{IsFeature}
 use Rattle.bt_bed.specs.model.Good.{Member, locus_at}
-use Rattle.bt_bed.specs.calls.Reading.{Fills, FillAnswers, GivesMember, Takes, TellsOwnFailure, ahead_in}
+use Rattle.bt_bed.specs.calls.Reading.{Fills, FillAnswers, GivesMember, Takes, ahead_in}
 use Rattle.bt_bed.specs.model.Sorted.{block_sorting}
 use Rattle.bt_bed.specs.declared.read.blocks.Blocks.{Blocks}
 
@@ -26,11 +26,10 @@ module _ {S : Type 0} (device : Source S) where
 
   -- `fill` of the reader below
   pub fills_blocks : (old new : Blocks S) (result : Result Bool Fault) → Fills device (view_in block_sorting old.sorted) result (view_in block_sorting new.sorted)
-      → TellsOwnFailure device.is_read (view_in block_sorting old.sorted).fault old.sorted.reader result new.sorted.reader
       → RunsOutForName device (view_in block_sorting old.sorted) result new.sorted.reader → FillsBlocks device old result new
   unfolding view_of view_with
-  fills_blocks old new result there own for_name =
-      record { answers = there.answers; next = filled old new result there.answers; own_failure = own; for_name = for_name; kept = there.kept; order = tt }
+  fills_blocks old new result there for_name =
+      record { answers = there.answers; next = filled old new result there.answers; for_name = for_name; kept = there.kept; order = tt }
 
 module _ {S : Type 0} (device : Source S) (old new : Blocks S) where
   -- `consume` of the reader below

@@ -18,7 +18,7 @@ use Rattle.bt_bed.specs.inside.OrderedLookahead.{IsElsewhere, last_in, start_aft
 use Rattle.bt_bed.specs.model.Order.{Order}
 use Rattle.bt_bed.specs.calls.Orders.{IsTotal, IsUpTo}
 use Rattle.bt_bed.specs.model.Sorted.{Locus, Sorting, sorting_of}
-use Rattle.bt_bed.specs.calls.Reading.{Fills, FillAnswers, GivesMember, MemberReader, Takes, TellsOwnFailure, ahead_in, first_from, good_coming}
+use Rattle.bt_bed.specs.calls.Reading.{Fills, FillAnswers, GivesMember, MemberReader, Takes, ahead_in, first_from, good_coming}
 use Rattle.bt_bed.specs.calls.Records.{FillsRecords, IsNext, TakesRecords, order_in, view_of}
 use Rattle.bt_bed.specs.calls.Bed.{is_on, record_on, run_of, run_then, IsOnLine, raw_in, record_in, text_in}
 use Rattle.bt_bed.specs.declared.read.sorted_reader.SortedReader.{SortedReader}
@@ -104,12 +104,11 @@ module _ {S O : Type 0} {g : Ghosts O} (device : Source S) (old new : Records S 
 
   -- `fill` of the reader below
   pub fills_records : (result : Result Bool Fault) → IsTotal (order_in old) → Fills device (view_in (sorting_at g old.sorted) old.sorted) result (view_in (sorting_at g old.sorted) new.sorted)
-      → TellsOwnFailure device.is_read (view_in (sorting_at g old.sorted) old.sorted).fault old.sorted.reader result new.sorted.reader
       → RunsOutForName device (view_in (sorting_at g old.sorted) old.sorted) result new.sorted.reader → FillsRecords device old result new
   unfolding view_of view_with
-  fills_records result total fills own for_name =
+  fills_records result total fills for_name =
       let there : Fills device (view_of old) result (view_of new) = rw (same_view, ← was_view) fills in
-      record { answers = there.answers; next = filled device old new result total there.answers; own_failure = own; for_name = for_name; kept = there.kept; order = same_order }
+      record { answers = there.answers; next = filled device old new result total there.answers; for_name = for_name; kept = there.kept; order = same_order }
 
   -- `consume` of the reader below
   pub takes_records : (count : ℕ) → Takes device (view_in (sorting_at g old.sorted) old.sorted) (take count (records_in old.sorted)) (view_in (sorting_at g old.sorted) new.sorted) → TakesRecords device old count new

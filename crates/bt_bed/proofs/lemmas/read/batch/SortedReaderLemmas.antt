@@ -2,13 +2,13 @@
 use Rattle.bt_lines.proofs.Std.{IfNone, rules, ◌≡◌, ℕ, suc, ◌-◌, ◌<◌, ◌≤◌, Bool, true, false, List, [], ◌∷◌, ◌++◌, length, take, drop, Option, Some, None, Ok, refl, sym, ap, ◌∙◌, subst, arith, length-take, take-append-drop, if◌then◌else◌, is_some, IfSome, IsTrue, option_map, ForSome, Result, Err, inl, inr}
 use Rattle.bt_lines.specs.declared.device.Source.{Ghosts as Source}
 use Rattle.bt_lines.proofs.lemmas.reader.lines.TakingLemmas.{is_prefix, next_bytes, next_number}
-use Rattle.bt_lines.specs.calls.Reader.{DropsLines, TakesLines, bytes_left, buffered_in as lines_buffered, fault_kept as line_fault, input_of, lines_given, lines_left, source_of, GivesEnd, GivesFault, HasRead, IsKept, MakesLine, bytes_taken}
+use Rattle.bt_lines.specs.calls.Reader.{DropsLines, TakesLines, bytes_left, buffered_in as lines_buffered, fault_kept as line_fault, input_of, lines_given, lines_left, source_of, GivesEnd, GivesFault, IsKept, MakesLine}
 use Rattle.bt_lines.specs.model.Lines.{TextLine}
 use Rattle.bt_lines.specs.calls.Line.{AreNumbered}
 use Rattle.bt_lines.specs.calls.Names.{fault_value}
 use Rattle.bt_lines.specs.declared.fault.Input.{Input}
 use Rattle.bt_lines.specs.declared.reader.line_reader.LineReader.{LineReader}
-use Rattle.bt_bed.proofs.lemmas.read.good.ReadingLemmas.{left_numbered, LineCame, line_came, lost_is_own, Follows, Going, gives_again, going_end, going_member, going_more, going_start, going_unkept, going_unread, going_wrong, given_first}
+use Rattle.bt_bed.proofs.lemmas.read.good.ReadingLemmas.{left_numbered, LineCame, line_came, Follows, Going, gives_again, going_end, going_member, going_more, going_start, going_unkept, going_unread, going_wrong, given_first}
 use Rattle.bt_bed.proofs.lemmas.Definitions.{line_said}
 use Rattle.bt_bed.proofs.lemmas.read.batch.RecordsLemmas.{placed_there, run_some, says_of_line}
 use Rattle.bt_bed.proofs.lemmas.read.good.SaidRuns.{LinesSay, good_said, order_behind, order_is_said, place_behind, run_behind, run_is_said, run_says, said_fewer, said_in_order, say_fewer, say_front, FirstOfRun, first_of_run, says_again}
@@ -17,7 +17,7 @@ use Rattle.bt_bed.specs.model.BedLine.{fault_at_line, record_of}
 use Rattle.bt_bed.specs.model.Good.{Format, Good, Member, or_else, bed_format, line_says, locus_at}
 use Rattle.bt_bed.specs.model.Sorted.{Locus, Sorting}
 use Rattle.bt_bed.specs.inside.OrderedLookahead.{HasNext, HoldsChrom, IsKnownLast, LineTaken, MakesLast, ahead_of, last_in, name_in, start_in, KeepsLast}
-use Rattle.bt_bed.specs.calls.Reading.{AreSaid, BeginsComing, MemberReader, Takes, good_behind, good_coming, members_from, state_behind, with_members, AnswersFault, Fills, IsLost, TellsOwnFailure}
+use Rattle.bt_bed.specs.calls.Reading.{AreSaid, BeginsComing, MemberReader, Takes, good_behind, good_coming, members_from, state_behind, with_members, AnswersFault, Fills, IsLost}
 use Rattle.bt_bed.specs.calls.Batch.{StandsFirst, left, left_after}
 use Rattle.bt_bed.specs.calls.Bed.{feature_lent, is_some_left, record_in, run_of}
 use Rattle.bt_bed.specs.declared.record.bed.BedRef.{BedRef}
@@ -33,7 +33,7 @@ use Rattle.bt_lines.specs.model.Fault.{FaultValue}
 use Rattle.bt_lines.specs.declared.fault.Fault.{Fault}
 use Rattle.bt_bed.proofs.lemmas.read.good.SaidLemmas.{bed_of_line}
 use Rattle.bt_bed.proofs.lemmas.read.ColumnLemmas.{said_record_name}
-use Rattle.bt_lines.proofs.lemmas.reader.block.ReadsLemmas.{counts_none, hands_none, has_read_then, reads_same}
+use Rattle.bt_lines.proofs.lemmas.reader.block.ReadsLemmas.{hands_none}
 use Rattle.bt_bed.proofs.lemmas.order.TableLemmas.{lost_parts}
 use Rattle.bt_bed.specs.inside.FirstColumns.{IsRecordName}
 
@@ -282,11 +282,6 @@ module _ {S Q : Type 0} (device : Source S) (sorting : Sorting) where
   pub sorted_start : (reader : LineReader S) (lookahead : OrderedLookahead Q) → Going device (view_with sorting None reader lookahead []) (view_with sorting None reader lookahead [])
   sorted_start reader lookahead = going_start device (view_with sorting None reader lookahead []) (none_in reader lookahead) (rests reader lookahead)
 
-  -- a reader of lines without a fault is still without one
-  pub still_going : (old now : LineReader S) (first lookahead : OrderedLookahead Q) → Going device (view_with sorting None old first []) (view_with sorting None now lookahead []) → line_fault old ≡ None → line_fault now ≡ None
-  unfolding view_with
-  still_going old now first lookahead g none = g.going none
-
   module _ {old : MemberReader S Feature (Option Locus)} {now : LineReader S} (mid new : SortedReader S Q) (makes : MakesLine device now mid.reader) (kept : IsKept device now → IsKept device mid.reader)
       (g : Going device old (view_with sorting None now mid.lookahead [])) {line : TextLine} {more : List TextLine} (first : lines_buffered mid.reader ≡ line ∷ more)
       (keeps : KeepsLast mid.lookahead new.lookahead) where
@@ -384,10 +379,6 @@ module _ {S Q : Type 0} (device : Source S) (sorting : Sorting) where
       kept = λ was. kept (g.passed.kept was);
     }
 
--- if a line was taken, nothing more was read
-read_on : {S : Type 0} (device : Source S) (old mid new : LineReader S) → HasRead device.is_read old mid → TakesOne device mid new → HasRead device.is_read old new
-read_on device old mid new read one = has_read_then device.is_read old mid new read (counts_none device.is_read (source_of mid) (source_of new) (bytes_taken mid) (bytes_taken new) one.takes.source_is one.takes.taken_is)
-
 -- if no record is known to be ahead, none is buffered
 pub none_buffered : {S Q : Type 0} (sorted : SortedReader S Q) → sorted.is_ahead ≡ false → buffered_in sorted ≡ []
 unfolding buffered_in
@@ -424,18 +415,6 @@ module _ {S Q : Type 0} (device : Source S) (sorting : Sorting) where
       taken_unkept fault taken = λ going is none.
           let first = there (Err fault) taken in
           sorted_unkept device sorting mid new makes kept g first.first first.keeps fault first.takes is
-
-  -- what was read until then
-  module _ {mid new : SortedReader S Q} (rules : Sorting) (old : LineReader S) (read : HasRead device.is_read old mid.reader) where
-    pub read_record : TakesFirst device rules mid (Ok true) new → HasRead device.is_read old new.reader
-    read_record taken = has_read_then device.is_read old mid.reader new.reader read (reads_same device.is_read mid.reader new.reader taken.takes.same)
-
-    pub read_nothing : TakesFirst device rules mid (Ok false) new → HasRead device.is_read old new.reader
-    read_nothing taken = read_on device old mid.reader new.reader read taken.takes.takes
-
-    pub read_fault : (before : Option FaultValue) (fault : Fault) → TakesFirst device rules mid (Err fault) new → TellsOwnFailure {T = Bool} device.is_read before old (Err fault) new.reader
-    read_fault before fault taken = lost_is_own Bool device.is_read before old new.reader fault (read_on device old mid.reader new.reader read taken.takes.takes) (record { input = input_of mid.reader; line = taken.line.number })
-        (line_says rules (last_in mid.lookahead) taken.line.text) (λ kind e. bed_of_line kind (says_of_line rules (last_in mid.lookahead) taken.line.text kind e)) taken.takes.cause
 
 module _ {S Q : Type 0} (sorted : SortedReader S Q) (some : sorted.is_ahead ≡ true) where
   ahead_parts : (r : Feature) × (more : List Feature) × (buffered_in sorted ≡ r ∷ more)

@@ -8,20 +8,16 @@ use Rattle.bt_lines.specs.calls.Faults.{no_memory}
 use Rattle.bt_lines.specs.calls.Line.{GivesFirst, AreNumbered, line_feeds}
 use Rattle.bt_lines.specs.model.Lines.{TextLine, bytes_in}
 use Rattle.bt_lines.specs.calls.Output.{block_size}
-use Rattle.bt_lines.specs.calls.Reader.{CutsOff, DropsLines, GivesFault, Hands, IsKept, IsNear, MakesLine, TakenLines, TakesLines, buffered_bytes, buffered_in, bytes_taken, fault_kept, has_ended, held, input_of, lines_given, lines_left, room, source_of, FailsToRead, GivesEnd, end_told, room as line_room, fault_kept as line_fault, HasRead, TellsOwnFailure as LineTellsOwnFailure}
+use Rattle.bt_lines.specs.calls.Reader.{CutsOff, DropsLines, GivesFault, Hands, IsKept, IsNear, MakesLine, TakenLines, TakesLines, buffered_bytes, buffered_in, bytes_taken, fault_kept, has_ended, held, input_of, lines_given, lines_left, room, source_of, FailsToRead, GivesEnd, end_told, room as line_room, fault_kept as line_fault}
 use Rattle.bt_lines.specs.declared.reader.buffered_lines.ConsumedLines.{ConsumedLines}
 use Rattle.bt_lines.specs.declared.reader.line_reader.LineReader.{LineReader}
-use Rattle.bt_bed.specs.calls.Reading.{LinesPass, IsBeyond, MemberReader, Remains, first_from, good_behind, good_coming, Stays, GivesMember, EndsMembers, LineIsWrong, RunsOut, Cause, AnswersFault, IsLost, TellsOwnFailure, is_of_line, Takes, with_members}
+use Rattle.bt_bed.specs.calls.Reading.{LinesPass, IsBeyond, MemberReader, Remains, first_from, good_behind, good_coming, Stays, GivesMember, EndsMembers, LineIsWrong, RunsOut, Cause, AnswersFault, is_of_line, Takes, with_members}
 use Rattle.bt_lines.specs.declared.fault.Input.{Input}
 use Rattle.bt_lines.specs.declared.fault.Kind.{Kind}
 use Rattle.bt_bed.proofs.lemmas.read.good.SaidLemmas.{beyond_from}
 use Rattle.bt_bed.specs.model.Good.{with_member, Format, Good, Member, ends_with, good, good_from}
 use Rattle.bt_bed.specs.model.BedLine.{fault_at_line}
-use Rattle.bt_lines.proofs.lemmas.reader.block.ReadsLemmas.{hands_both, hands_none, tells_no_memory, tells_read, tells_then}
-use Rattle.bt_lines.specs.calls.Names.{fault_value}
-use Rattle.bt_lines.specs.declared.fault.Fault.{Fault}
-use Rattle.bt_lines.specs.declared.fault.Place.{Place}
-use Rattle.bt_lines.specs.declared.reader.line.Line.{Line}
+use Rattle.bt_lines.proofs.lemmas.reader.block.ReadsLemmas.{hands_both, hands_none}
 
 pub pass_more : (a b c : Option (List TextLine)) (i j k : ℕ) → IfSome a (λ all. b ≡ Some (drop i all)) → IfSome b (λ all. c ≡ Some (drop j all)) → k ≡ i + j → IfSome a (λ all. c ≡ Some (drop k all))
 pass_more a b c i j k p q e = grind (arith, drop-drop)
@@ -346,6 +342,7 @@ module _ {S A State : Type 0} (device : Source S) where
         inr (inl (record {
           fails = record {
             is = fails.is ∙ ap (λ i. read_failed i (suc (lines_given now.below))) (same_input now g) ∙ ap (λ n. read_failed (input_of old.below) (suc n)) (sym gives.counted);
+            kept = gives.kept;
             cause = fails.cause;
             before_end = not_told (end_told old.below) (end_told now.below) g.passed.bytes.1.told_stays (gives.before_end going);
             cut = cut_fault device old.below now.below new.below g.passed fault gives going fails.is;
@@ -422,25 +419,3 @@ module _ {S A State : Type 0} (device : Source S) where
     near = near_came device old.below old.below (came_none device old.below);
     shrinks = omega arith;
   }
-
--- Lemmas on failed reads that are reported for the first time.
-
-module _ (T : Type 0) {S : Type 0} (IsRead : S → Option (List ℕ) → S → Type 0) (before : Option FaultValue) (old new : LineReader S) (fault : Fault) where
-  module _ (read : HasRead IsRead old new) where
-    -- a line at fault tells no failed read
-    pub line_is_own : (place : Place) (kind : Kind) → is_of_line kind ≡ true → fault_value fault ≡ fault_at_line place.input place.line kind → TellsOwnFailure {T = T} IsRead before old (Err fault) new
-    line_is_own place kind of_line is none = tells_read IsRead old new (Some (fault_value fault)) (λ input line e. grind arith) read
-
-    -- nor does running out of memory
-    pub memory_is_own : fault_value fault ≡ no_memory → TellsOwnFailure {T = T} IsRead before old (Err fault) new
-    memory_is_own is none = tells_no_memory IsRead old new (fault_value fault) is read
-
-    -- a line that wasn't taken
-    pub lost_is_own : {A : Type 0} (place : Place) (said : Result (Option A) Kind) → ((kind : Kind) → said ≡ Err kind → is_of_line kind ≡ true) → IsLost place said (fault_value fault) → TellsOwnFailure {T = T} IsRead before old (Err fault) new
-    lost_is_own place (Err kind) of_line lost = line_is_own place kind (of_line kind refl) lost
-    lost_is_own place (Ok None) of_line lost = absurd lost
-    lost_is_own place (Ok (Some item)) of_line lost = memory_is_own lost
-
-  -- what the reader of lines reports is passed on
-  pub read_is_own : (now : LineReader S) → HasRead IsRead old now → (before ≡ None → line_fault now ≡ None) → LineTellsOwnFailure {A = Option Line} IsRead now (Err fault) new → TellsOwnFailure {T = T} IsRead before old (Err fault) new
-  read_is_own now so_far going own none = tells_then IsRead old now new (Some (fault_value fault)) so_far (own (going none))

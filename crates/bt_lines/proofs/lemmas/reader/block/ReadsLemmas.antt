@@ -7,7 +7,7 @@ use Rattle.bt_lines.specs.calls.Faults.{no_memory}
 use Rattle.bt_lines.specs.declared.fault.Input.{Input}
 use Rattle.bt_lines.specs.declared.fault.Kind.TheVariants.{NoMemory as OutOfMemory, ReadFailed}
 use Rattle.bt_lines.proofs.lemmas.reader.lines.TextLemmas.{line_feeds-append}
-use Rattle.bt_lines.specs.calls.Reader.{Hands, IsReadFailed, bytes_taken, end_told, fault_kept, feeds_taken, input_of, source_of}
+use Rattle.bt_lines.specs.calls.Reader.{AreRead, Hands, IsReadFailed, bytes_taken, end_told, fault_kept, feeds_taken, input_of, source_of}
 use Rattle.bt_lines.specs.declared.device.Source.{Ghosts as Source}
 use Rattle.bt_lines.specs.declared.reader.line_reader.LineReader.{LineReader}
 
@@ -61,28 +61,22 @@ kept_or_none None = inl refl
 kept_or_none (Some fault) = inr refl
 
 module _ {S : Type 0} (device : Source S) where
-  -- how bytes were handed over before any fault: by reads that succeeded, too many of them if a failed read is kept, or by
-  -- others and one that failed
-  abbrev pub Comes : LineReader S → List ℕ → LineReader S → Type 0
-  Comes old bytes new =
-      (ReadsOn device.is_read (source_of old) bytes (source_of new) × (IsReadFailed (fault_kept new) → 2 ^ 63 ≤ bytes_taken new))
-      ⊎ (FailsAfter device.is_read (source_of old) bytes (source_of new) × IsReadFailed (fault_kept new))
-
   module _ (old new : LineReader S) (bytes : List ℕ) where
-    reads_of : Comes old bytes new → ReadsOn device.is_read (source_of old) bytes (source_of new)
-        ⊎ (FailsAfter device.is_read (source_of old) bytes (source_of new) × IsReadFailed (fault_kept new))
-    reads_of (inl on) = inl on.0
-    reads_of (inr fails) = inr fails
+    -- bytes came by reads that succeeded
+    pub read_on : ReadsOn device.is_read (source_of old) bytes (source_of new) → (fault_kept old ≡ None → IsReadFailed (fault_kept new) → 2 ^ 63 ≤ bytes_taken new) → AreRead device old bytes new
+    unfolding AreRead
+    read_on reads past = inl (reads, past)
 
-    own_of : Comes old bytes new → IsReadFailed (fault_kept new) → FailsAfter device.is_read (source_of old) bytes (source_of new) ⊎ (2 ^ 63 ≤ bytes_taken new)
-    own_of (inl on) failed = inr (on.1 failed)
-    own_of (inr fails) failed = inl fails.0
+    -- or one failed
+    pub read_up_to : FailsAfter device.is_read (source_of old) bytes (source_of new) → IsReadFailed (fault_kept new) → AreRead device old bytes new
+    unfolding AreRead
+    read_up_to fails kept = inr (fails, kept)
 
-    pub hands_by : fault_kept old ≡ None → Comes old bytes new → Consumes (device.left (source_of old)) (device.left (source_of new)) bytes → bytes_taken new ≡ bytes_taken old + length bytes
+    -- before any fault
+    pub hands_by : fault_kept old ≡ None → AreRead device old bytes new → Consumes (device.left (source_of old)) (device.left (source_of new)) bytes → bytes_taken new ≡ bytes_taken old + length bytes
         → input_of new ≡ input_of old → (end_told new ≡ false → bytes_taken new < 2 ^ 63 → feeds_taken new ≡ feeds_taken old + line_feeds bytes) → (end_told old ≡ true → end_told new ≡ true) → Hands device old bytes new
-    hands_by going came consumed counted input feeds told = record {
-      reads = reads_of came;
-      own = λ none failed. own_of came failed;
+    hands_by going reads consumed counted input feeds told = record {
+      reads = reads;
       stops = λ some. absurd (no_fault (fault_kept old) going some);
       left_over = consumed;
       counted = counted;
@@ -91,18 +85,17 @@ module _ {S : Type 0} (device : Source S) where
       told_stays = told;
     }
 
-    -- by reads that succeeded, and no fault is kept
+    -- and none is kept
     pub hands_on : fault_kept old ≡ None → fault_kept new ≡ None → ReadsOn device.is_read (source_of old) bytes (source_of new) → Consumes (device.left (source_of old)) (device.left (source_of new)) bytes
         → bytes_taken new ≡ bytes_taken old + length bytes → input_of new ≡ input_of old → (end_told new ≡ false → bytes_taken new < 2 ^ 63 → feeds_taken new ≡ feeds_taken old + line_feeds bytes)
         → (end_told old ≡ true → end_told new ≡ true) → Hands device old bytes new
-    hands_on was is on = hands_by was (inl (on, λ failed. absurd (none_failed (fault_kept new) is failed)))
+    hands_on was is reads = hands_by was (read_on reads (λ none failed. absurd (none_failed (fault_kept new) is failed)))
 
   -- nothing was handed over
   pub hands_still : (old new : LineReader S) → source_of new ≡ source_of old → bytes_taken new ≡ bytes_taken old → input_of new ≡ input_of old
       → (end_told new ≡ false → feeds_taken new ≡ feeds_taken old) → (end_told old ≡ true → end_told new ≡ true) → fault_kept new ≡ fault_kept old → Hands device old [] new
   hands_still old new same taken input feeds told kept = record {
-    reads = inl (reads_nothing device.is_read (source_of old) (source_of new) same);
-    own = λ none failed. absurd (none_failed (fault_kept new) (kept ∙ none) failed);
+    reads = read_on old new [] (reads_nothing device.is_read (source_of old) (source_of new) same) (λ none failed. absurd (none_failed (fault_kept new) (kept ∙ none) failed));
     stops = λ some. (refl, same, kept);
     left_over = rw same (Consumes-nil (device.left (source_of old)));
     counted = taken ∙ sym (add-zero (bytes_taken old));
@@ -116,43 +109,25 @@ module _ {S : Type 0} (device : Source S) where
 
   -- one call after another
   module _ {old mid new : LineReader S} {first second : List ℕ} (p : Hands device old first mid) (q : Hands device mid second new) where
-    -- if the first one ended with a fault, the second did nothing
-    joined_failed : IsSome (fault_kept mid) → FailsAfter device.is_read (source_of old) first (source_of mid) → FailsAfter device.is_read (source_of old) (first ++ second) (source_of new)
-    joined_failed some fails = let ends = q.stops some in rw (ends.0, ends.1, append-nil first) fails
-
-    some_failed : IsReadFailed (fault_kept mid) → IsSome (fault_kept mid)
-    some_failed failed = rw failed.2 refl
-
-    hands_joined : ReadsOn device.is_read (source_of old) (first ++ second) (source_of new) ⊎ (FailsAfter device.is_read (source_of old) (first ++ second) (source_of new) × IsReadFailed (fault_kept new))
-    hands_joined = go p.reads q.reads
+    -- a failed read that is kept was kept before, or came since
+    past_joined : (fault_kept old ≡ None → IsReadFailed (fault_kept mid) → 2 ^ 63 ≤ bytes_taken mid) → (fault_kept mid ≡ None → IsReadFailed (fault_kept new) → 2 ^ 63 ≤ bytes_taken new)
+        → fault_kept old ≡ None → IsReadFailed (fault_kept new) → 2 ^ 63 ≤ bytes_taken new
+    past_joined one two none failed = go (kept_or_none (fault_kept mid))
       where
-        go : ReadsOn device.is_read (source_of old) first (source_of mid) ⊎ (FailsAfter device.is_read (source_of old) first (source_of mid) × IsReadFailed (fault_kept mid))
-            → ReadsOn device.is_read (source_of mid) second (source_of new) ⊎ (FailsAfter device.is_read (source_of mid) second (source_of new) × IsReadFailed (fault_kept new))
-            → ReadsOn device.is_read (source_of old) (first ++ second) (source_of new) ⊎ (FailsAfter device.is_read (source_of old) (first ++ second) (source_of new) × IsReadFailed (fault_kept new))
-        go (inl one) (inl two) = inl (reads_then device.is_read one two)
-        go (inl one) (inr two) = inr (fails_later device.is_read one two.0, two.1)
+        go : (fault_kept mid ≡ None) ⊎ IsSome (fault_kept mid) → 2 ^ 63 ≤ bytes_taken new
+        go (inl going) = two going failed
+        go (inr some) = omega (arith, q.counted, one none (subst IsReadFailed (q.stops some).2 failed))
+
+    reads_joined : AreRead device old (first ++ second) new
+    unfolding AreRead
+    reads_joined = go p.reads q.reads
+      where
+        go : AreRead device old first mid → AreRead device mid second new → AreRead device old (first ++ second) new
+        go (inl one) (inl two) = inl (reads_then device.is_read one.0 two.0, past_joined one.1 two.1)
+        go (inl one) (inr two) = inr (fails_later device.is_read one.0 two.0, two.1)
         go (inr one) two =
-            let some = some_failed one.1 in
-            inr (joined_failed some one.0, subst IsReadFailed (sym (q.stops some).2) one.1)
-
-    own_joined : fault_kept old ≡ None → IsReadFailed (fault_kept new) → FailsAfter device.is_read (source_of old) (first ++ second) (source_of new) ⊎ (2 ^ 63 ≤ bytes_taken new)
-    own_joined none failed = go (kept_or_none (fault_kept mid))
-      where
-        later : fault_kept mid ≡ None → ReadsOn device.is_read (source_of old) first (source_of mid) ⊎ (FailsAfter device.is_read (source_of old) first (source_of mid) × IsReadFailed (fault_kept mid))
-            → FailsAfter device.is_read (source_of mid) second (source_of new) ⊎ (2 ^ 63 ≤ bytes_taken new)
-            → FailsAfter device.is_read (source_of old) (first ++ second) (source_of new) ⊎ (2 ^ 63 ≤ bytes_taken new)
-        later going (inl one) (inl two) = inl (fails_later device.is_read one two)
-        later going (inl one) (inr past) = inr past
-        later going (inr one) two = absurd (none_failed (fault_kept mid) going one.1)
-
-        before : IsSome (fault_kept mid) → FailsAfter device.is_read (source_of old) first (source_of mid) ⊎ (2 ^ 63 ≤ bytes_taken mid)
-            → FailsAfter device.is_read (source_of old) (first ++ second) (source_of new) ⊎ (2 ^ 63 ≤ bytes_taken new)
-        before some (inl fails) = inl (joined_failed some fails)
-        before some (inr past) = inr (omega (arith, q.counted, past))
-
-        go : (fault_kept mid ≡ None) ⊎ IsSome (fault_kept mid) → FailsAfter device.is_read (source_of old) (first ++ second) (source_of new) ⊎ (2 ^ 63 ≤ bytes_taken new)
-        go (inl going) = later going p.reads (q.own going failed)
-        go (inr some) = before some (p.own none (subst IsReadFailed (q.stops some).2 failed))
+            let ends = q.stops (rw one.1.2 refl) in
+            inr (rw (ends.0, ends.1, append-nil first) one.0, subst IsReadFailed (sym ends.2) one.1)
 
     stops_joined : IsSome (fault_kept old) → (first ++ second ≡ []) × (source_of new ≡ source_of old) × (fault_kept new ≡ fault_kept old)
     stops_joined some =
@@ -162,8 +137,7 @@ module _ {S : Type 0} (device : Source S) where
 
   pub hands_both : (old mid new : LineReader S) (first second : List ℕ) → Hands device old first mid → Hands device mid second new → Hands device old (first ++ second) new
   hands_both old mid new first second p q = record {
-    reads = hands_joined p q;
-    own = own_joined p q;
+    reads = reads_joined p q;
     stops = stops_joined p q;
     left_over = Consumes-trans (device.left (source_of old)) (device.left (source_of mid)) (device.left (source_of new)) first second p.left_over q.left_over;
     counted = omega (arith, p.counted, q.counted, length-append first second);
@@ -172,23 +146,22 @@ module _ {S : Type 0} (device : Source S) where
     told_stays = λ e. q.told_stays (p.told_stays e);
   }
 
-  -- if no failed read is kept, all reads succeeded
   module _ {old new : LineReader S} {bytes : List ℕ} (hands : Hands device old bytes new) where
+    -- if no failed read is kept, all reads succeeded
     pub all_served : (IsReadFailed (fault_kept new) → ⊥) → ReadsOn device.is_read (source_of old) bytes (source_of new)
+    unfolding AreRead
     all_served never = go hands.reads
       where
-        go : ReadsOn device.is_read (source_of old) bytes (source_of new) ⊎ (FailsAfter device.is_read (source_of old) bytes (source_of new) × IsReadFailed (fault_kept new)) → ReadsOn device.is_read (source_of old) bytes (source_of new)
-        go (inl on) = on
+        go : AreRead device old bytes new → ReadsOn device.is_read (source_of old) bytes (source_of new)
+        go (inl on) = on.0
         go (inr fails) = absurd (never fails.1)
 
-    -- if one is, the last read failed, or too many bytes came
+    -- if one is kept since then, the last read failed, or too many bytes came
     pub one_failed : fault_kept old ≡ None → IsReadFailed (fault_kept new)
         → FailsAfter device.is_read (source_of old) bytes (source_of new) ⊎ (ReadsOn device.is_read (source_of old) bytes (source_of new) × (2 ^ 63 ≤ bytes_taken new))
-    one_failed none failed = go hands.reads (hands.own none failed)
+    unfolding AreRead
+    one_failed none failed = go hands.reads
       where
-        go : ReadsOn device.is_read (source_of old) bytes (source_of new) ⊎ (FailsAfter device.is_read (source_of old) bytes (source_of new) × IsReadFailed (fault_kept new))
-            → FailsAfter device.is_read (source_of old) bytes (source_of new) ⊎ (2 ^ 63 ≤ bytes_taken new)
-            → FailsAfter device.is_read (source_of old) bytes (source_of new) ⊎ (ReadsOn device.is_read (source_of old) bytes (source_of new) × (2 ^ 63 ≤ bytes_taken new))
-        go (inr fails) own = inl fails.0
-        go (inl on) (inl fails) = inl fails
-        go (inl on) (inr past) = inr (on, past)
+        go : AreRead device old bytes new → FailsAfter device.is_read (source_of old) bytes (source_of new) ⊎ (ReadsOn device.is_read (source_of old) bytes (source_of new) × (2 ^ 63 ≤ bytes_taken new))
+        go (inl on) = inr (on.0, on.1 none failed)
+        go (inr fails) = inl fails.0

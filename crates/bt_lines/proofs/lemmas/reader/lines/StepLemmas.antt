@@ -8,13 +8,13 @@ use Rattle.bt_lines.specs.model.Lines.{TextLine, fed_line, last_line, lines_from
 use Rattle.bt_lines.specs.model.Fault.{read_failed}
 use Rattle.bt_lines.specs.calls.Faults.{no_memory}
 use Rattle.bt_lines.specs.inside.Shape.{held_at, IsLast}
-use Rattle.bt_lines.proofs.lemmas.reader.block.ReadsLemmas.{Comes, hands_by, hands_on, hands_still, memory_failed}
+use Rattle.bt_lines.proofs.lemmas.reader.block.ReadsLemmas.{hands_by, hands_on, hands_still, memory_failed, read_on, read_up_to}
 use Rattle.bt_lines.specs.calls.Device.{FailsAfter, ReadsOn}
 use Rattle.bt_lines.specs.inside.Spill.{Buffers, closed, uncounted}
 use Rattle.bt_lines.specs.calls.Output.{block_size}
 use Rattle.bt_lines.specs.calls.Line.{GivesFirst, NoLineFeed, line_feeds}
 use Rattle.bt_lines.specs.calls.Names.{fault_value}
-use Rattle.bt_lines.specs.calls.Reader.{FillsLines, IsKept, IsSound, buffered_bytes, Hands, IsNear, FailsToRead, end_told, GivesLine, source_of, input_of, lines_given, bytes_taken, held, fault_kept, has_ended, bytes_left, feeds_taken, lines_left}
+use Rattle.bt_lines.specs.calls.Reader.{AreRead, DropsLines, FillsLines, IsKept, IsSound, buffered_bytes, Hands, IsNear, FailsToRead, end_told, GivesLine, source_of, input_of, lines_given, bytes_taken, held, fault_kept, has_ended, bytes_left, feeds_taken, lines_left}
 use Rattle.bt_lines.specs.declared.fault.Fault.{Fault}
 use Rattle.bt_lines.specs.declared.fault.Input.{Input}
 use Rattle.bt_lines.specs.declared.reader.spill.Stop.{Stop}
@@ -152,9 +152,26 @@ module _ {S : Type 0} (device : Source S) (old new : LineReader S) (bytes : List
   unfolding bytes_left
   makes_line untold = grind (arith, append_assoc, made_hands)
 
-  pub makes_last : end_told new ≡ true → device.end_told (source_of new) ≡ true → IsAtEnd (device.left (source_of new)) → FillsLines device old (Ok true) new
+  last_same : end_told new ≡ true → IsAtEnd (device.left (source_of new)) → DropsLines (lines_left device.left old) 0 (lines_left device.left new)
   unfolding bytes_left
-  makes_last is_told told none = search rules
+  last_same is_told none = search rules
+
+  pub makes_last : end_told new ≡ true → device.end_told (source_of new) ≡ true → IsAtEnd (device.left (source_of new)) → FillsLines device old (Ok true) new
+  makes_last is_told told none = record {
+    answers = record {
+      some = some;
+      bytes = (bytes, made_hands, holds);
+      same = last_same is_told none;
+      counted = same_lines;
+      ready = ready;
+      served = served;
+      was_going = (was.good, was.open_ended);
+      goes = good;
+      within = within;
+    };
+    unread = λ h. absurd (omega (arith, h, ap length empty));
+    kept = λ h. record { end = λ e. (told, none); within = λ e. within };
+  }
 
 -- ---- the end of the text
 
@@ -186,7 +203,7 @@ pub record CutLine {S : Type 0} (device : Source S) (old new : LineReader S) (by
   pub same : input_of new ≡ input_of old
   pub same_lines : lines_given new ≡ lines_given old
   pub consumed : Consumes (device.left (source_of old)) (device.left (source_of new)) bytes
-  pub came : Comes device old bytes new
+  pub reads : AreRead device old bytes new
   pub counted : bytes_taken new ≡ bytes_taken old + length bytes
   pub joined : held old ++ bytes ≡ text ++ behind
   pub clear : NoLineFeed text
@@ -202,7 +219,7 @@ module _ {S : Type 0} {device : Source S} {old new : LineReader S} {bytes text b
   cut_feeds below = omega (arith, line.same_lines, line.holds below)
 
   cut_hands : Hands device old bytes new
-  cut_hands = hands_by device old new bytes line.was.good line.came line.consumed line.counted line.same (λ untold. cut_feeds) (λ e. absurd (false≢true (sym line.was.untold ∙ e)))
+  cut_hands = hands_by device old new bytes line.was.good line.reads line.consumed line.counted line.same (λ untold. cut_feeds) (λ e. absurd (false≢true (sym line.was.untold ∙ e)))
 
   cut_near : IsNear device.left old new
   unfolding bytes_left
@@ -276,7 +293,7 @@ module _ {S : Type 0} {device : Source S} (old new : LineReader S) (going : old.
           same = same;
           same_lines = same_lines;
           consumed = b.consumed;
-          came = inr (b.handed, (old.input, suc old.lines, rw (state, same, same_lines) refl));
+          reads = read_up_to device old new b.bytes b.handed (old.input, suc old.lines, rw (state, same, same_lines) refl);
           counted = rw (state, was.taken) counted;
           joined = sym (append-nil (held old ++ b.bytes));
           clear = clear;
@@ -306,7 +323,7 @@ module _ {S : Type 0} {device : Source S} (old new : LineReader S) (going : old.
           same = same;
           same_lines = same_lines;
           consumed = b.consumed;
-          came = inl (b.handed, λ failed. rw state (omega (arith, b.stopped.3)));
+          reads = read_on device old new b.bytes b.handed (λ none failed. rw state (omega (arith, b.stopped.3)));
           counted = rw (state, was.taken) counted;
           joined = joined;
           clear = cut.2;
@@ -335,7 +352,7 @@ module _ {S : Type 0} {device : Source S} (old new : LineReader S) (going : old.
           same = same;
           same_lines = same_lines;
           consumed = b.consumed;
-          came = inl (b.handed, λ failed. absurd (memory_failed (fault_kept new) (rw state refl) failed));
+          reads = read_on device old new b.bytes b.handed (λ none failed. absurd (memory_failed (fault_kept new) (rw state refl) failed));
           counted = rw (state, was.taken) (omega (arith, b.counted));
           joined = joined;
           clear = cut.1;

@@ -1,27 +1,21 @@
 use Rattle.bt_lines.proofs.Std.{◌≡◌, ap, refl, rules}
-use Rattle.bt_lines.proofs.lemmas.reader.block.ReadsLemmas.{has_read_then, reads_same}
 use Rattle.bt_lines.specs.calls.Line.{line_seen}
 use Rattle.bt_lines.specs.calls.Names.{fault_value}
 use Rattle.bt_lines.specs.declared.fault.Place.{Place}
 use Rattle.bt_lines.specs.declared.fault.Input.{Input}
-use Rattle.bt_lines.specs.calls.Reader.{fault_kept, input_of}
-use Rattle.bt_bed.proofs.lemmas.read.good.ReadingLemmas.{lost_is_own, read_is_own}
-use Rattle.bt_bed.proofs.lemmas.read.good.SaidLemmas.{genome_of_line}
-use Rattle.bt_bed.proofs.lemmas.order.TableLemmas.{passed_on, going_start, going_line, going_end, going_err, going_fault, refused_at_place}
-use Rattle.bt_bed.specs.calls.GenomeTable.{ReadsGenome, names_of}
-use Rattle.bt_bed.specs.model.Genome.{entry_of, new_entry}
-use Rattle.bt_bed.specs.declared.order.genome.Genome.{Genome}
+use Rattle.bt_lines.specs.calls.Reader.{input_of}
+use Rattle.bt_bed.proofs.lemmas.order.TableLemmas.{passed_on, going_start, going_line, going_end, going_err, going_fault}
+use Rattle.bt_bed.specs.calls.GenomeTable.{ReadsGenome}
 use Rattle.bt_bed.proofs.order.genome.Genome.read.Goals as goal
 
 pub loop-genome-init : goal.loop-genome-init
-loop-genome-init g c = (going_start _ c.args.reader.now _ c.new-genome.ensures, search rules, reads_same g.S.Source.is_read c.args.reader.now c.args.reader.now refl)
+loop-genome-init g c = (going_start _ c.args.reader.now _ c.new-genome.ensures, search rules)
 
 pub loop-genome-preserved : goal.loop-genome-preserved
 loop-genome-preserved g c =
     let gives = rw (c.in_ok-line.was, c.in-Some.is) at c.next.follows.holds-at-none in (
       going_line _ c.args.reader.now c.loop-genome.reader c.next.follows.lender-at-none (line_seen c.in-Some.line) c.loop-genome.genome c.add_line.new.self c.loop-genome.invariant.0 gives.answers gives.sound c.in_ok-add_line.ensures.added,
       c.loop-genome.invariant.1,
-      has_read_then g.S.Source.is_read c.args.reader.now c.loop-genome.reader c.next.follows.lender-at-none c.loop-genome.invariant.2 gives.own_failure,
     )
 
 pub returns-in_err-add_line : goal.returns-in_err-add_line
@@ -33,10 +27,6 @@ returns-in_err-add_line g c =
     c.from_residual-in_err-add_line.ensures.1
     (record {
       answers = going_err _ c.args.reader.now c.loop-genome.reader c.next.follows.lender-at-none (line_seen c.in-Some.line) c.loop-genome.genome _ (fault_value c.in_err-add_line.field-0.0) c.loop-genome.invariant.0 gives.answers gives.sound at c.in_err-add_line.ensures.refused;
-      own_failure = lost_is_own Genome g.S.Source.is_read (fault_kept c.args.reader.now) c.args.reader.now c.next.follows.lender-at-none c.in_err-add_line.field-0.0
-          (has_read_then g.S.Source.is_read c.args.reader.now c.loop-genome.reader c.next.follows.lender-at-none c.loop-genome.invariant.2 gives.own_failure)
-          (record { input = c.input-input.result; line = c.in-Some.line.number }) (new_entry (names_of c.loop-genome.genome) (entry_of c.in-Some.line.text.now))
-          (λ kind e. genome_of_line kind (refused_at_place (names_of c.loop-genome.genome) c.in-Some.line.text.now kind e)) c.in_err-add_line.ensures.refused;
       sound = λ was. gives.sound (c.loop-genome.invariant.0.passed.sound was);
     })
 
@@ -47,7 +37,6 @@ returns-in_err-line g c =
     c.from_residual.ensures.1
     (record {
       answers = going_fault _ c.args.reader.now c.loop-genome.reader c.next.follows.lender-at-none c.loop-genome.genome (fault_value c.in_err-line.field-0.0) c.loop-genome.invariant.0 gives.answers;
-      own_failure = read_is_own Genome g.S.Source.is_read (fault_kept c.args.reader.now) c.args.reader.now c.next.follows.lender-at-none c.in_err-line.field-0.0 c.loop-genome.reader c.loop-genome.invariant.2 c.loop-genome.invariant.0.going gives.own_failure;
       sound = λ was. gives.sound (c.loop-genome.invariant.0.passed.sound was);
     })
 
@@ -56,6 +45,5 @@ returns g c =
     let gives = rw (c.in_ok-line.was, c.in_default.is) at c.next.follows.holds-at-none in
     record {
       answers = going_end _ c.args.reader.now c.loop-genome.reader c.next.follows.lender-at-none c.loop-genome.genome c.loop-genome.invariant.0 gives.answers;
-      own_failure = has_read_then g.S.Source.is_read c.args.reader.now c.loop-genome.reader c.next.follows.lender-at-none c.loop-genome.invariant.2 gives.own_failure;
       sound = λ was. gives.sound (c.loop-genome.invariant.0.passed.sound was);
     }

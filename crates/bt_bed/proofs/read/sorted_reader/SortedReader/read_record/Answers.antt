@@ -1,9 +1,6 @@
 use Rattle.bt_lines.proofs.Std.{◌≡◌, refl, sym, ap, ◌∙◌, Bool, None, Some}
 use Rattle.bt_lines.specs.calls.Names.{fault_value}
-use Rattle.bt_lines.proofs.lemmas.reader.block.ReadsLemmas.{has_read_then, reads_same}
-use Rattle.bt_lines.specs.calls.Reader.{fault_kept as line_fault}
-use Rattle.bt_bed.proofs.lemmas.read.good.ReadingLemmas.{read_is_own}
-use Rattle.bt_bed.proofs.lemmas.read.batch.SortedReaderLemmas.{read_fault, read_nothing, read_record, sorted_end, sorted_start, sorted_unread, still_going, taken_fault, taken_nothing, taken_record, taken_unkept, view_before}
+use Rattle.bt_bed.proofs.lemmas.read.batch.SortedReaderLemmas.{sorted_end, sorted_start, sorted_unread, taken_fault, taken_nothing, taken_record, taken_unkept, view_before}
 use Rattle.bt_bed.specs.calls.SortedReader.{buffered_in}
 use Rattle.bt_bed.proofs.read.sorted_reader.SortedReader.read_record.Goals as goal
 
@@ -14,7 +11,6 @@ loop-self-init g c = record {
   rule = refl;
   last = refl;
   fault = c.requires.going;
-  read = reads_same g.S.Source.is_read c.args.self.now.reader c.args.self.now.reader refl;
 }
 
 pub returns-in-Ok-true-take_line-clause-fills : goal.returns-in-Ok-true-take_line-clause-fills
@@ -23,12 +19,6 @@ returns-in-Ok-true-take_line-clause-fills g c =
     let taken = rw c.in-Ok-true-take_line.field-0-test at c.in-Ok-true-take_line.ensures.takes in
     rw (view_before g.S.Source (g.Q.Sorted.sorting c.args.self.now.lookahead.rule) c.args.self.now c.requires.none c.requires.going)
     (taken_record g.S.Source (g.Q.Sorted.sorting c.args.self.now.lookahead.rule) _ (ap g.Q.Sorted.sorting c.loop-self.invariant.rule) _ c.loop-self.self.reader fills.answers fills.kept c.loop-self.invariant.going taken)
-
-pub returns-in-Ok-true-take_line-clause-own_failure : goal.returns-in-Ok-true-take_line-clause-own_failure
-returns-in-Ok-true-take_line-clause-own_failure g c =
-    let taken = rw c.in-Ok-true-take_line.field-0-test at c.in-Ok-true-take_line.ensures.takes in
-    read_record g.S.Source (g.Q.Sorted.sorting c.args.self.now.lookahead.rule) _ c.args.self.now.reader
-    (has_read_then g.S.Source.is_read c.args.self.now.reader c.loop-self.self.reader c.fill.new.self c.loop-self.invariant.read c.in-Ok-true.ensures.own_failure) taken
 
 pub loop-self-preserved : goal.loop-self-preserved
 loop-self-preserved g c =
@@ -40,8 +30,6 @@ loop-self-preserved g c =
       rule = c.in-Ok-false-take_line.ensures.rule ∙ c.loop-self.invariant.rule;
       last = taken.keeps.last ∙ c.loop-self.invariant.last;
       fault = c.in-Ok-false-take_line.ensures.fault;
-      read = read_nothing g.S.Source (g.Q.Sorted.sorting c.args.self.now.lookahead.rule) _ c.args.self.now.reader
-          (has_read_then g.S.Source.is_read c.args.self.now.reader c.loop-self.self.reader c.fill.new.self c.loop-self.invariant.read c.in-Ok-true.ensures.own_failure) taken;
     }
 
 pub returns-in-Err-take_line-clause-fills : goal.returns-in-Err-take_line-clause-fills
@@ -50,12 +38,6 @@ returns-in-Err-take_line-clause-fills g c =
     rw (view_before g.S.Source (g.Q.Sorted.sorting c.args.self.now.lookahead.rule) c.args.self.now c.requires.none c.requires.going)
     (taken_fault g.S.Source (g.Q.Sorted.sorting c.args.self.now.lookahead.rule) _ (ap g.Q.Sorted.sorting c.loop-self.invariant.rule) _ c.loop-self.self.reader fills.answers fills.kept c.loop-self.invariant.going c.in-Err-take_line.fault
     c.in-Err-take_line.ensures.takes)
-
-pub returns-in-Err-take_line-clause-own_failure : goal.returns-in-Err-take_line-clause-own_failure
-returns-in-Err-take_line-clause-own_failure g c =
-    read_fault g.S.Source (g.Q.Sorted.sorting c.args.self.now.lookahead.rule) _ c.args.self.now.reader
-    (has_read_then g.S.Source.is_read c.args.self.now.reader c.loop-self.self.reader c.fill.new.self c.loop-self.invariant.read c.in-Ok-true.ensures.own_failure) (line_fault c.args.self.now.reader) c.in-Err-take_line.fault
-    c.in-Err-take_line.ensures.takes
 
 pub returns-in-Err-take_line-clause-for_name : goal.returns-in-Err-take_line-clause-for_name
 returns-in-Err-take_line-clause-for_name g c =
@@ -71,21 +53,12 @@ returns-in-Ok-false-clause-fills g c =
     rw (c.requires.none, c.requires.going, c.loop-self.invariant.none)
     (sorted_end g.S.Source (g.Q.Sorted.sorting c.args.self.now.lookahead.rule) _ c.loop-self.self.reader c.fill.new.self c.loop-self.self.lookahead fills.kept c.loop-self.invariant.going fills.answers)
 
-pub returns-in-Ok-false-clause-own_failure : goal.returns-in-Ok-false-clause-own_failure
-returns-in-Ok-false-clause-own_failure g c = has_read_then g.S.Source.is_read c.args.self.now.reader c.loop-self.self.reader c.fill.new.self c.loop-self.invariant.read c.in-Ok-false.ensures.own_failure
-
 pub returns-in-Err-clause-fills : goal.returns-in-Err-clause-fills
 unfolding buffered_in
 returns-in-Err-clause-fills g c =
     rw (c.requires.none, c.requires.going, c.loop-self.invariant.none)
     (sorted_unread g.S.Source (g.Q.Sorted.sorting c.args.self.now.lookahead.rule) _ c.loop-self.self.reader c.fill.new.self c.loop-self.self.lookahead c.in-Err.ensures.fills.kept c.loop-self.invariant.going c.in-Err.fault
     c.in-Err.ensures.fills.answers)
-
-pub returns-in-Err-clause-own_failure : goal.returns-in-Err-clause-own_failure
-returns-in-Err-clause-own_failure g c =
-    read_is_own Bool g.S.Source.is_read (line_fault c.args.self.now.reader) c.args.self.now.reader c.fill.new.self c.in-Err.fault c.loop-self.self.reader c.loop-self.invariant.read
-    (still_going g.S.Source (g.Q.Sorted.sorting c.args.self.now.lookahead.rule) c.args.self.now.reader c.loop-self.self.reader c.args.self.now.lookahead c.loop-self.self.lookahead c.loop-self.invariant.going)
-    c.in-Err.ensures.own_failure
 
 pub returns-in-Err-clause-for_name : goal.returns-in-Err-clause-for_name
 returns-in-Err-clause-for_name g c = λ going is none.

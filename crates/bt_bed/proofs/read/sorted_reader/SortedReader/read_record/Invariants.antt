@@ -1,5 +1,5 @@
 use Rattle.bt_lines.proofs.Std.{◌≡◌, None, [], false}
-use Rattle.bt_lines.specs.calls.Reader.{HasRead, room}
+use Rattle.bt_lines.specs.calls.Reader.{room}
 use Rattle.bt_bed.proofs.lemmas.read.good.ReadingLemmas.{Going}
 use Rattle.bt_bed.specs.calls.SortedReader.{view_with}
 use Rattle.bt_bed.specs.inside.OrderedLookahead.{last_in}
@@ -14,7 +14,6 @@ invariant-loop-self g l = record {
   rule : l.self.lookahead.rule ≡ l.initial.self.lookahead.rule;
   last : last_in l.self.lookahead ≡ last_in l.initial.self.lookahead;
   fault : l.self.fault ≡ None;
-  read : HasRead g.S.Source.is_read l.initial.self.reader l.self.reader;
 }
 
 abbrev pub decreases-loop-self : goal.decreases-loop-self
