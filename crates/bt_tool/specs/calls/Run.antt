@@ -18,7 +18,7 @@ use Rattle.bt_bed.specs.calls.Orders.{AreDistinct}
 use Rattle.bt_bed.specs.declared.order.genome.Genome.{Genome as GenomeTable}
 use Rattle.bt_tool.specs.model.Report.{chromosomes_of, Behaviour, behaviour_of, Inputs, behaviour_on, report_of, report, seen_of, texts_of}
 use Rattle.bt_tool.specs.calls.Inputs.{Holds, OfBoth, ReadsIf, ServesIf, HandsUpTo, Reads}
-use Rattle.bt_lines.specs.calls.Device.{ReadsFail, ReadsOn}
+use Rattle.bt_lines.specs.calls.Device.{FailsAfter, ReadsOn}
 use Rattle.bt_lines.specs.declared.device.Sink.{Ghosts as Sink}
 use Rattle.bt_lines.specs.declared.fault.Place.{Place}
 use Rattle.bt_bed.specs.model.Genome.{Entry}
@@ -143,7 +143,7 @@ module _ {G : Type 0} (device : Source G) where
 -- The last read of a run failed, whatever the source did before, or its reads served and handed
 -- over more bytes than a text may have.
 abbrev pub IsOwnFailure : {S : Type 0} → (S → Option (List ℕ) → S → Type 0) → S → S → Type 0
-IsOwnFailure IsRead before after = ReadsFail IsRead before after
+IsOwnFailure IsRead before after = ((bytes : List ℕ) × FailsAfter IsRead before bytes after)
     ⊎ ((bytes : List ℕ) × ReadsOn IsRead before bytes after × (2 ^ 63 ≤ length bytes))
 
 -- The input is there, and its last read failed, or its reads served and handed over more bytes than a text may have.

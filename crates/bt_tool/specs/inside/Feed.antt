@@ -5,7 +5,7 @@ use Rattle.bt_lines.specs.model.Fault.{FaultValue, read_failed}
 use Rattle.bt_lines.specs.calls.Faults.{no_memory, write_failed}
 use Rattle.bt_lines.specs.model.Lines.{bytes_in, TextLine}
 use Rattle.bt_lines.specs.calls.Output.{block_size, Output, IsPrefixOf, Grows, HoldsBlock, WorksAsBefore, FailsToAdd, Grown, SinkFailed}
-use Rattle.bt_lines.specs.calls.Reader.{CutsOff, Hands, IsKept, IsUnread, source_of, input_of, bytes_taken, fault_kept as line_fault, lines_given, lines_left, IsSound, feeds_taken}
+use Rattle.bt_lines.specs.calls.Reader.{CutsOff, Hands, IsKept, source_of, input_of, bytes_taken, fault_kept as line_fault, lines_given, lines_left, IsSound, feeds_taken}
 use Rattle.bt_lines.specs.declared.fault.Input.{Input}
 use Rattle.bt_lines.specs.declared.fault.Kind.{Kind}
 use Rattle.bt_lines.specs.declared.reader.line_reader.LineReader.{LineReader}
@@ -46,18 +46,6 @@ abbrev pub lines_read : {S A State : Type 0} → Format A State → State → Li
     → MemberReader S A State
 lines_read format state lines =
     record { format = format; below = lines; state = state; buffered = []; fault = line_fault lines }
-
--- a failed read that is kept is of the reads since then: the last of them failed, whatever the
--- source did before, or the text is too long
-abbrev pub IsOwnFault : {S : Type 0} → (S → Option (List ℕ) → S → Type 0) → LineReader S → Option FaultValue
-    → LineReader S → Type 0
-IsOwnFault IsRead old kept new =
-    (input : Input) (line : ℕ) → kept ≡ Some (read_failed input line) → IsUnread IsRead old new
-
--- so it is of the one that a reader of members keeps
-abbrev pub KeepsOwnFault : {S A State : Type 0} → (S → Option (List ℕ) → S → Type 0) → LineReader S
-    → MemberReader S A State → Type 0
-KeepsOwnFault IsRead old reader = IsOwnFault IsRead old reader.fault reader.below
 
 -- a failed read that a reader of members keeps is kept by its reader of lines
 abbrev pub IsKeptBelow : {S A State : Type 0} → MemberReader S A State → LineReader S → Type 0

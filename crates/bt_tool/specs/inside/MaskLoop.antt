@@ -25,7 +25,7 @@ use Rattle.bt_sweep.specs.declared.sweep.Want.{Want}
 use Rattle.bt_sweep.specs.declared.sweep.Want.TheVariants.{A as WantA, B as WantB, Nothing as WantNothing}
 use Rattle.bt_tool.specs.declared.loops.masking.MaskRun.{MaskRun}
 use Rattle.bt_tool.specs.model.Written.{IsOneOf, is_fasta_kind, is_mask_kind, lines_need}
-use Rattle.bt_tool.specs.inside.Pair.{Comes, JoinDef, Pair, item_ahead, HaveRead, IsOverWith}
+use Rattle.bt_tool.specs.inside.Pair.{Comes, JoinDef, Pair, item_ahead, IsOverWith}
 use Rattle.bt_tool.specs.inside.Rounds.{IsBuffered, TwoInputDef}
 use Rattle.bt_tool.specs.inside.Feed.{lines_read}
 
@@ -127,11 +127,9 @@ module _ {A B : Type 0} (source_a : Source A) (source_b : Source B) (start : Mas
       → Type 0
   LoopGoesOn lines second mask grown = (reached : Reached) × Masks reached lines second mask grown
 
-  -- the lines and the records so far were given, and all reads served
+  -- the lines and the records so far were given
   pub record MaskComes (now : MaskRun A B) (grown : Output) : Type 0 where
     pub goes : LoopGoesOn now.lines (view_of now.records) now.mask grown
-    pub reads : HaveRead begun_pair
-        (line_members start.mask.full goes.0 now.lines) (view_of now.records)
 
   abbrev pub MaskIsOver : Option FaultValue → MaskRun A B → Output → Type 0
   MaskIsOver fault now grown = (members : MemberReader A SequenceLine Reached)

@@ -6,12 +6,12 @@ use Rattle.bt_lines.specs.model.Fault.{FaultValue, read_failed}
 use Rattle.bt_lines.specs.calls.Faults.{no_memory, write_failed}
 use Rattle.bt_lines.specs.model.Lines.{TextLine}
 use Rattle.bt_lines.specs.calls.Output.{Output, Grows, WorksAsBefore}
-use Rattle.bt_lines.specs.calls.Reader.{bytes_taken, end_told, lines_left, source_of, HasRead, Hands, lines_given}
+use Rattle.bt_lines.specs.calls.Reader.{bytes_taken, end_told, fault_kept as line_fault, lines_left, source_of, Hands, lines_given}
 use Rattle.bt_lines.specs.declared.fault.Kind.{Kind}
 use Rattle.bt_bed.specs.model.Good.{Good, Member, items_in}
 use Rattle.bt_bed.specs.calls.Stage.{Stage, given}
 use Rattle.bt_bed.specs.calls.Reading.{MemberReader, ahead_in, good_coming}
-use Rattle.bt_tool.specs.inside.Feed.{HasPut, member_items, AreAll, IsReadFor, PassesMembers, CutsLines, PutsLines, TookButBlock, HasFaultBehind, IsReadTo, KeepsOwnFault}
+use Rattle.bt_tool.specs.inside.Feed.{HasPut, member_items, AreAll, IsReadFor, PassesMembers, CutsLines, PutsLines, TookButBlock, HasFaultBehind, IsKeptBelow, IsReadTo}
 use Rattle.bt_lines.specs.declared.fault.Input.{Input}
 use Rattle.bt_lines.specs.declared.fault.Input.TheVariants.{Second}
 use Rattle.bt_bed.specs.model.BedLine.{fault_at_line}
@@ -266,17 +266,11 @@ module _ {A B X Y U V : Type 0} (join : JoinDef X Y) (pair : Pair A B X Y U V)
     pub exact : IsFaultButWrite fault → PutsLines out near.bytes grown
 
 module _ {A B X Y U V : Type 0} (pair : Pair A B X Y U V) where
-  -- all reads since the beginning served
-  abbrev pub HaveRead : MemberReader A X U → MemberReader B Y V → Type 0
-  HaveRead first second =
-      HasRead pair.source_a.is_read pair.first.below first.below
-      × HasRead pair.source_b.is_read pair.second.below second.below
-
-  -- the run is over; all reads served if no failed read is reported, and one that is reported is this
-  -- run's
+  -- the run is over; if no failed read is reported, neither reader keeps one, and one that a reader of members keeps
+  -- is kept by its reader of lines
   pub record IsOverWith (join : JoinDef X Y) (out : Output) (fault : Option FaultValue)
       (first : MemberReader A X U) (second : MemberReader B Y V) (grown : Output) : Type 0 where
     pub finishes : PairEnds join pair out fault first second grown
-    pub reads : TellsNoRead fault → HaveRead first second
-    pub own_first : KeepsOwnFault pair.source_a.is_read pair.first.below first
-    pub own_second : KeepsOwnFault pair.source_b.is_read pair.second.below second
+    pub none_kept : TellsNoRead fault → TellsNoRead (line_fault first.below) × TellsNoRead (line_fault second.below)
+    pub kept_first : IsKeptBelow first first.below
+    pub kept_second : IsKeptBelow second second.below

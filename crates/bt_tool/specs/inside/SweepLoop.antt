@@ -29,7 +29,7 @@ use Rattle.bt_sweep.specs.declared.sweep.Want.{Want}
 use Rattle.bt_tool.specs.declared.loops.sweeping.SweepConfig.{SweepConfig}
 use Rattle.bt_tool.specs.declared.loops.sweeping.SweepRun.{SweepRun}
 use Rattle.bt_tool.specs.model.Written.{IsSweptKind, records_need}
-use Rattle.bt_tool.specs.inside.Pair.{Comes, IsKnown, JoinDef, Pair, HaveRead, IsOverWith}
+use Rattle.bt_tool.specs.inside.Pair.{Comes, IsKnown, JoinDef, Pair, IsOverWith}
 use Rattle.bt_tool.specs.inside.Rounds.{IsBuffered, TwoInputDef}
 use Rattle.bt_tool.specs.inside.Feed.{AreAll, PassesMembers, StopsAfter}
 
@@ -130,8 +130,6 @@ module _ {A B O : Type 0} {g : Ghosts O} where
       pub sweeps : Sweeps source_a source_b (order_in start.first) (config_of (state_of start.sweep))
           start.first start.second out now.first now.second (state_of now.sweep) grown
       pub order_is : sweep_order now.sweep ≡ order_in start.first
-      pub reads : HaveRead (records_pair source_a source_b start.first start.second)
-          (view_of now.first) (view_of now.second)
 
     abbrev pub SweepIsOver : Option FaultValue → SweepRun A B O g → Output → Type 0
     SweepIsOver fault now grown =

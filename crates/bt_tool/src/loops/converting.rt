@@ -4,12 +4,12 @@ ghost use Rattle.std.specs.Prelude.{◌≡◌, None, option_map};
 ghost use Rattle.bt_lines.specs.calls.Line.{line_seen};
 ghost use Rattle.bt_lines.specs.calls.Names.{fault_value};
 ghost use Rattle.bt_lines.specs.calls.Output.{HoldsBlock};
-ghost use Rattle.bt_lines.specs.calls.Reader.{HasRead, fault_kept};
+ghost use Rattle.bt_lines.specs.calls.Reader.{fault_kept};
 ghost use Rattle.bt_seq.specs.model.Alignment.{sam_format, is_sam_kind};
 ghost use Rattle.bt_tool.specs.model.Report.{of_members};
 ghost use Rattle.bt_tool.specs.model.Written.{IsOneOf, alignments_written};
-ghost use Rattle.bt_tool.specs.inside.Feed.{ConvertsAll, ConvertsLine, sam_reader, IsFresh, IsOwnFault};
-ghost use Rattle.bt_tool.specs.calls.Run.{AnswersNoRead, RunsAlone};
+ghost use Rattle.bt_tool.specs.inside.Feed.{ConvertsAll, ConvertsLine, sam_reader, IsFresh};
+ghost use Rattle.bt_tool.specs.calls.Run.{AnswersNoRead, RunsAlone, TellsNoRead};
 
 use bt_bed::at_line;
 use bt_lines::{Fault, Input, Line, LineReader, Out, Place, Sink, Source};
@@ -48,8 +48,7 @@ fn convert_all<S: Source, K: Sink>(
     requires block { HoldsBlock out.old.output.took out.old.output.put }
     ensures converts { ConvertsAll S.Source converter.old lines.old out.old.output result
         lines.new out.new.output }
-    ensures reads { AnswersNoRead result → HasRead S.is_read lines.old lines.new }
-    ensures own_failure { IsOwnFault S.is_read lines.old (fault_kept lines.new) lines.new }
+    ensures none_kept { AnswersNoRead result → TellsNoRead (fault_kept lines.new) }
 {
     let input = lines.input();
     while let Some(line) = lines.next()? {

@@ -3,7 +3,7 @@
 ghost use Rattle.std.specs.Prelude.{◌≡◌, [], List, None, option_map};
 ghost use Rattle.bt_lines.specs.calls.Names.{fault_value};
 ghost use Rattle.bt_lines.specs.calls.Output.{HoldsBlock};
-ghost use Rattle.bt_lines.specs.calls.Reader.{HasRead};
+ghost use Rattle.bt_lines.specs.calls.Reader.{fault_kept as line_fault};
 ghost use Rattle.bt_bed.specs.model.Feature.{Feature, intervals_of};
 ghost use Rattle.bt_bed.specs.calls.Orders.{AreNonEmpty, IsTotal, ArePlaced};
 ghost use Rattle.bt_bed.specs.model.BedLine.{IsBedKind};
@@ -14,8 +14,8 @@ ghost use Rattle.bt_bed.specs.calls.CursorOf.{batch_cursor};
 ghost use Rattle.bt_bed.specs.declared.read.batch.Batch.{Batch};
 ghost use Rattle.bt_runs.specs.calls.Engine.{FeedsBatch, SettledBegins, SettledStays};
 ghost use Rattle.bt_tool.specs.model.Report.{of_records};
-ghost use Rattle.bt_tool.specs.inside.Feed.{AreInOrder, ConsumesGiven, FeedsMembers, IsFresh, KeepsOwnFault};
-ghost use Rattle.bt_tool.specs.calls.Run.{AnswersNoRead, RunsAlone};
+ghost use Rattle.bt_tool.specs.inside.Feed.{AreInOrder, ConsumesGiven, FeedsMembers, IsFresh, IsKeptBelow};
+ghost use Rattle.bt_tool.specs.calls.Run.{AnswersNoRead, RunsAlone, TellsNoRead};
 
 use bt_bed::{ChromOrder, Records};
 use bt_lines::{Fault, Input, LineReader, Out, Sink, Source};
@@ -39,8 +39,8 @@ fn feed_all<S: Source, O: ChromOrder, E: Engine, K: Sink>(
     requires block { HoldsBlock out.old.output.took out.old.output.put }
     ensures feeds { FeedsMembers (E.definition.settled engine.old) (IsBedKind (order_in records.old)) (AreInOrder (order_in records.old)) S.Source
         (λ past. E.definition.is_after engine.old past engine.new) (view_of records.old) out.old.output result (view_of records.new) out.new.output }
-    ensures reads { AnswersNoRead result → HasRead S.is_read (below records.old) (below records.new) }
-    ensures own_failure { KeepsOwnFault S.is_read (below records.old) (view_of records.new) }
+    ensures none_kept { AnswersNoRead result → TellsNoRead (line_fault (below records.new)) }
+    ensures kept { IsKeptBelow (view_of records.new) (below records.new) }
 {
     while records.fill()? {
         feed_buffered(records, engine, out)?;

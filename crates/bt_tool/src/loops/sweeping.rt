@@ -3,7 +3,7 @@
 ghost use Rattle.std.specs.Prelude.{◌≡◌, None, Some, option_map};
 ghost use Rattle.bt_lines.specs.calls.Names.{fault_value};
 ghost use Rattle.bt_lines.specs.calls.Output.{HoldsBlock};
-ghost use Rattle.bt_lines.specs.calls.Reader.{HasRead};
+ghost use Rattle.bt_lines.specs.calls.Reader.{fault_kept as line_fault};
 ghost use Rattle.bt_bed.specs.model.BedLine.{IsBedKind};
 ghost use Rattle.bt_bed.specs.calls.Orders.{IsTotal};
 ghost use Rattle.bt_bed.specs.calls.Records.{below, buffered_in, fault_kept, order_in, view_of};
@@ -12,9 +12,9 @@ ghost use Rattle.bt_bed.specs.declared.read.batch.Batch.{Batch};
 ghost use Rattle.bt_sweep.specs.calls.Sweeping.{AdvancesOn};
 ghost use Rattle.bt_sweep.specs.calls.SweepView.{order_of as sweep_order, state_of};
 ghost use Rattle.bt_tool.specs.model.Report.{of_intersect};
-ghost use Rattle.bt_tool.specs.inside.Feed.{ConsumesGiven, HasTaken, KeepsOwnFault};
+ghost use Rattle.bt_tool.specs.inside.Feed.{ConsumesGiven, HasTaken, IsKeptBelow};
 ghost use Rattle.bt_tool.specs.inside.SweepLoop.{ReadsRest};
-ghost use Rattle.bt_tool.specs.calls.Run.{AnswersNoRead, RunsBy};
+ghost use Rattle.bt_tool.specs.calls.Run.{AnswersNoRead, RunsBy, TellsNoRead};
 
 use crate::loops::Sources;
 use crate::loops::two_inputs::{TwoInputEngine, run_two};
@@ -72,8 +72,8 @@ fn consume_buffered<B: Source, O: ChromOrder>(second: &mut Records<'_, B, O>)
 // Reads an input to its end, so that a fault after the last record that was wanted is reported.
 fn check_rest<B: Source, O: ChromOrder>(second: &mut Records<'_, B, O>) -> Result<(), Fault>
     ensures reads { ReadsRest B.Source (IsBedKind (order_in second.old)) (view_of second.old) result (view_of second.new) }
-    ensures rest { fault_kept second.old ≡ None → AnswersNoRead result → HasRead B.is_read (below second.old) (below second.new) }
-    ensures own_failure { fault_kept second.old ≡ None → KeepsOwnFault B.is_read (below second.old) (view_of second.new) }
+    ensures none_kept { fault_kept second.old ≡ None → AnswersNoRead result → TellsNoRead (line_fault (below second.new)) }
+    ensures kept { fault_kept second.old ≡ None → IsKeptBelow (view_of second.new) (below second.new) }
 {
     while second.fill()? {
         consume_buffered(second);

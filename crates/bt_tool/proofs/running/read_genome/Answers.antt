@@ -1,7 +1,7 @@
-use Rattle.bt_lines.proofs.Std.{Some, ap, subst, sym}
+use Rattle.bt_lines.proofs.Std.{Some, subst, sym}
 use Rattle.bt_lines.specs.calls.Names.{fault_value}
 use Rattle.bt_tool.specs.calls.Run.{KnowsChromosomes, LacksChromosomes, IsOwnFailureIf, TellsOwnReads}
-use Rattle.bt_tool.proofs.lemmas.running.whole.OwnFailureLemmas.{knows_read, lacks_own, lacks_read, served_of}
+use Rattle.bt_tool.proofs.lemmas.running.whole.OwnFailureLemmas.{all_read, knows_read, lacks_none, lacks_own, lacks_read}
 use Rattle.bt_tool.proofs.running.read_genome.Goals as goal
 
 pub returns-in-Ok-clause-read : goal.returns-in-Ok-clause-read
@@ -23,13 +23,18 @@ returns-in-Err-clause-own_failure g c =
     let reader = c.new-lines.ensures in
     subst (λ before. TellsOwnReads (IsOwnFailureIf g.G.Source.is_read before (Some c.into_source.result)) ⊥ ⊥ (Some (fault_value c.in-Err.fault))) (sym c.in-Some.is)
     (lacks_own c.read-read.new.reader reader.source (sym c.into_source.ensures) reader.input
-    reader.none_taken.0 reader.none_fed reader.none_given reader.going.0 reader.lines reader.sound c.in-Err.ensures.answers (λ input line e. (c.in-Err.ensures.own_failure reader.going.0).unread input line (ap Some e)))
+    reader.none_taken.0 reader.none_fed reader.none_given reader.going.0 reader.lines reader.sound c.in-Err.ensures.answers)
 
 pub returns-in-Ok-clause-reads : goal.returns-in-Ok-clause-reads
 returns-in-Ok-clause-reads g c = λ never.
-    rw c.in-Some.is (served_of g.G.Source.is_read c.in-Some.genome c.into_source.result c.new-lines.result c.read-read.new.reader c.new-lines.ensures.source (sym c.into_source.ensures) c.in-Ok.ensures.own_failure)
+    let reader = c.new-lines.ensures in
+    rw c.in-Some.is
+    (all_read c.read-read.new.reader reader.source (sym c.into_source.ensures) reader.input
+    reader.none_taken.0 reader.none_fed reader.none_given reader.going.0 reader.lines reader.sound c.in-Ok.ensures.answers)
 
 pub returns-in-Err-clause-reads : goal.returns-in-Err-clause-reads
 returns-in-Err-clause-reads g c = λ never.
+    let reader = c.new-lines.ensures in
     rw c.in-Some.is
-    (served_of g.G.Source.is_read c.in-Some.genome c.into_source.result c.new-lines.result c.read-read.new.reader c.new-lines.ensures.source (sym c.into_source.ensures) ((c.in-Err.ensures.own_failure c.new-lines.ensures.going.0).read never))
+    (lacks_none c.read-read.new.reader reader.source (sym c.into_source.ensures) reader.input
+    reader.none_taken.0 reader.none_fed reader.none_given reader.going.0 reader.lines reader.sound c.in-Err.ensures.answers never)

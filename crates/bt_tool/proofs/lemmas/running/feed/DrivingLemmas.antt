@@ -1,5 +1,5 @@
 -- Lemmas on driving an engine, from the records that it takes to the report on what its input hands over.
-use Rattle.bt_lines.proofs.Std.{◌≡◌, ℕ, suc, ◌-◌, true, List, [], ◌++◌, take, Option, None, Some, Ok, refl, sym, ap, ◌∙◌, subst, append-nil, append_assoc, arith, inl, inr, ◌≢◌, ⊤, IfSome, map-append, Appends, Consumes, Bool, ◌∷◌, option_map, flat_map-append, Appends-nil}
+use Rattle.bt_lines.proofs.Std.{◌≡◌, ℕ, suc, ◌-◌, true, List, [], ◌++◌, take, Option, None, Some, Ok, refl, sym, ap, ◌∙◌, subst, append-nil, append_assoc, arith, inl, inr, ◌≢◌, ⊤, IfSome, map-append, Appends, Consumes, Bool, ◌∷◌, option_map, flat_map-append, Appends-nil, false≢true}
 use Rattle.bt_lines.specs.declared.device.Source.{Ghosts as Source}
 use Rattle.bt_lines.proofs.lemmas.reader.block.ReadsLemmas.{some_is}
 use Rattle.bt_lines.proofs.lemmas.Writer.{grows_both}
@@ -29,7 +29,7 @@ use Rattle.bt_tool.specs.calls.Run.{IsFaultButWrite, IsReported, IsWithin, Reads
 use Rattle.bt_tool.specs.model.Report.{of_members, of_records}
 use Rattle.bt_tool.specs.calls.Inputs.{Holds, OfBoth}
 use Rattle.bt_tool.proofs.lemmas.running.members.CursorLemmas.{Came, BeginsAt, at_whole, came_whole, good_whole, handed_to, says_fault, begins_over}
-use Rattle.bt_tool.specs.inside.Feed.{FeedStopCause, CutsLines, PutsLines, FeedsAll, FeedsUpTo, TookButBlock, IsReadFor, member_items, LineRefused, sam_reader, IsFresh, KeepsOwnFault, PassesMembers}
+use Rattle.bt_tool.specs.inside.Feed.{FeedStopCause, CutsLines, PutsLines, FeedsAll, FeedsUpTo, TookButBlock, IsReadFor, member_items, LineRefused, sam_reader, IsFresh, IsKeptBelow, PassesMembers}
 use Rattle.bt_tool.specs.model.Written.{Report, members_report, members_settle, report_by, Written, IsOneOf, alignment_lines, alignments_written, merge_written, pooled_written, coverage_written}
 use Rattle.bt_tool.proofs.lemmas.running.feed.FeedLemmas.{GoesOn, front_all, took_later, Fed, fails_writing, fed_all, fed_none, fed_up_to, goes_same, put_more}
 use Rattle.bt_tool.proofs.lemmas.running.feed.WritingLemmas.{is_whole, alone_writes}
@@ -40,6 +40,7 @@ use Rattle.bt_lines.specs.declared.reader.line_reader.LineReader.{LineReader}
 use Rattle.bt_seq.specs.model.Alignment.{Alignment, alignment_of, bed_lines, sam_format, is_sam_kind}
 use Rattle.bt_seq.specs.calls.Sam.{Converting}
 use Rattle.bt_seq.proofs.lemmas.Sam.{kinds_of_lines, wrong_kinds}
+use Rattle.bt_tool.proofs.lemmas.running.whole.OwnFailureLemmas.{feeds_own}
 use Rattle.bt_tool.proofs.lemmas.running.members.MemberLemmas.{IsStopped, came, passes_none, passes_some, read_line}
 use Rattle.bt_bed.proofs.lemmas.read.good.ReadingLemmas.{Going as Steps, going_end, going_start as steps_start, going_unread, going_wrong, good_at_first}
 use Rattle.bt_bed.specs.model.Genome.{Entry}
@@ -380,9 +381,9 @@ module _ {S : Type 0} (split cigar : Bool) {device : Source S} {first : S} {read
         drives_fault driven (IsOneOf is_sam_kind) (λ past. ⊤) out fault grown (subst (λ (m : Converting). FeedsUpTo (alignment_lines m.split m.with_cigar) (IsOneOf is_sam_kind) (λ past. ⊤) device (sam_reader reader) out fault new grown) same fed)
 
     -- a failed read that is reported is of a read that failed then
-    pub own_up_to : KeepsOwnFault device.is_read reader new → {fault : FaultValue} → FeedsUpTo (alignment_lines converting.split converting.with_cigar) (IsOneOf is_sam_kind) (λ past. ⊤) device (sam_reader reader) out fault new grown
+    pub own_up_to : IsKeptBelow new new.below → {fault : FaultValue} → FeedsUpTo (alignment_lines converting.split converting.with_cigar) (IsOneOf is_sam_kind) (λ past. ⊤) device (sam_reader reader) out fault new grown
         → TellsOwnReads ⊥ (IsOwnFailure device.is_read first last) ⊥ (Some fault)
-    own_up_to own fed = grind arith
+    own_up_to kept {fault} fed = feeds_own device starts_reader new ended kept (IsOneOf is_sam_kind) (λ kind. false≢true kind) (λ past. ⊤) fed
 
 -- Lemmas on the lines that an engine writes, from its intervals, and on the report that they make.
 

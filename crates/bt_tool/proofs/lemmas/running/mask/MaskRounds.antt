@@ -1,11 +1,10 @@
 -- Lemmas on the rounds of masking over two readers.
 use Rattle.bt_lines.proofs.Std.{◌≡◌, Bool, true, false, Option, None, Some, Result, Ok, Err, refl, sym, ◌∙◌, subst, ◌≤◌, ◌<◌, [], ap, arith, inl, IsErrAnd, ◌⊎◌, is_some, false≢true}
 use Rattle.bt_lines.specs.declared.device.Source.{Ghosts as Source}
-use Rattle.bt_lines.proofs.lemmas.reader.block.ReadsLemmas.{has_read_then, reads_same}
 use Rattle.bt_lines.specs.model.Fault.{FaultValue}
 use Rattle.bt_lines.specs.calls.Names.{fault_value}
 use Rattle.bt_lines.specs.calls.Output.{Output, HoldsBlock}
-use Rattle.bt_lines.specs.calls.Reader.{FillsLines, HasRead, TellsOwnFailure, fault_kept as line_fault, GivesEnd, IsKept, MakesLine, input_of}
+use Rattle.bt_lines.specs.calls.Reader.{FillsLines, fault_kept as line_fault, GivesEnd, IsKept, MakesLine, input_of}
 use Rattle.bt_lines.specs.declared.fault.Fault.{Fault}
 use Rattle.bt_lines.specs.declared.reader.line_reader.LineReader.{LineReader}
 use Rattle.bt_bed.specs.calls.Blocks.{FillsBlocks, below, fault_kept, view_of}
@@ -21,13 +20,13 @@ use Rattle.bt_sweep.specs.declared.sweep.Want.{Want}
 use Rattle.bt_sweep.specs.declared.sweep.Want.TheVariants.{A as WantA, B as WantB, Nothing as WantNothing}
 use Rattle.bt_tool.specs.declared.loops.masking.MaskRun.{MaskRun}
 use Rattle.bt_tool.specs.calls.Run.{TellsNoRead}
-use Rattle.bt_tool.specs.inside.Feed.{IsOwnFault, KeepsOwnFault, IsFresh}
+use Rattle.bt_tool.specs.inside.Feed.{IsKeptBelow, IsFresh}
 use Rattle.bt_tool.proofs.lemmas.running.members.MemberLemmas.{IsFilled, IsOver, passes_start}
 use Rattle.bt_tool.specs.inside.MaskLoop.{LoopGoesOn, MaskComes, MaskIsOver, mask_run, wanted_by, Masks, mask_rounds, line_members, mask_join, mask_pair, nothing_reached}
 use Rattle.bt_tool.proofs.lemmas.running.mask.MaskedLemmas.{AdvancesMask, MaskEnds, IsMaskReady, mask_left, finishes, stops_lines, stops_records, ends_alone, ends_lines, ends_waiting, fails_at_end, line_made, lines_done, record_made}
 use Rattle.bt_tool.specs.inside.Rounds.{IsLessOrReady, IsLessIfReady, LeadsTo}
 use Rattle.bt_tool.proofs.lemmas.running.members.BlockMembers.{block_filled, block_over, block_stopped, blocks_going}
-use Rattle.bt_tool.proofs.lemmas.running.whole.OwnFailureLemmas.{kept_below, line_told_kept, none_kept, own_then, told_kept}
+use Rattle.bt_tool.proofs.lemmas.running.whole.OwnFailureLemmas.{kept_there, line_none, none_below, none_tells, told_kept, told_none}
 use Rattle.bt_bed.proofs.lemmas.read.good.ReadingLemmas.{same_room}
 use Rattle.bt_bed.specs.model.Feature.{Feature}
 use Rattle.bt_bed.specs.model.Good.{block_format}
@@ -125,44 +124,27 @@ module _ {A B : Type 0} {source_a : Source A} {source_b : Source B} {start : Mas
   pub none_second : fault_kept old.records ≡ None
   none_second = s.goes.1.comes.second_passes.going
 
-  pub same_first : HasRead source_a.is_read old.lines old.lines
-  same_first = reads_same source_a.is_read old.lines old.lines refl
+  clear_first : TellsNoRead (line_fault old.lines)
+  clear_first = none_tells (line_fault old.lines) none_first
 
-  pub same_second : HasRead source_b.is_read (below old.records) (below old.records)
-  same_second = reads_same source_b.is_read (below old.records) (below old.records) refl
+  clear_second : TellsNoRead (line_fault (below old.records))
+  clear_second = none_tells (line_fault (below old.records)) s.goes.1.comes.second_passes.clear
 
-  pub own_first : IsOwnFault source_a.is_read old.lines (line_fault old.lines) old.lines
-  own_first = none_kept source_a.is_read old.lines (line_fault old.lines) old.lines none_first
-
-  pub own_second : KeepsOwnFault source_b.is_read (below old.records) (view_of old.records)
-  own_second = none_kept source_b.is_read (below old.records) (view_of old.records).fault (below old.records) none_second
-
-  -- it has come to these
-  abbrev pub came : (new : MaskRun A B) (later : Output) → LoopGoesOn source_a source_b start out new.lines (view_of new.records) new.mask later → HasRead source_a.is_read old.lines new.lines
-      → HasRead source_b.is_read (below old.records) (below new.records) → MaskComes source_a source_b start out new later
-  came new later goes read read_second = record {
-    goes = goes;
-    reads = (
-      has_read_then source_a.is_read start.lines old.lines new.lines s.reads.0 read,
-      has_read_then source_b.is_read (below start.records) (below old.records) (below new.records) s.reads.1 read_second,
-    );
-  }
+  kept_second : IsKeptBelow (view_of old.records) (below old.records)
+  kept_second = none_below (view_of old.records) (below old.records) none_second
 
   -- it has ended with these
   abbrev pub ended : (fault : Option FaultValue) (new : MaskRun A B) (later : Output) → MaskEnds source_a source_b start out fault new.lines (view_of new.records) later
-      → (TellsNoRead fault → HasRead source_a.is_read old.lines new.lines × HasRead source_b.is_read (below old.records) (below new.records))
-      → IsOwnFault source_a.is_read old.lines (line_fault new.lines) new.lines → KeepsOwnFault source_b.is_read (below old.records) (view_of new.records) → MaskIsOver source_a source_b start out fault new later
-  ended fault new later ends read own own_now = (
+      → (TellsNoRead fault → TellsNoRead (line_fault new.lines) × TellsNoRead (line_fault (below new.records)))
+      → IsKeptBelow (view_of new.records) (below new.records) → MaskIsOver source_a source_b start out fault new later
+  ended fault new later ends none kept = (
     ends.0,
     ends.1,
     record {
       finishes = ends.2;
-      reads = λ never. (
-        subst (λ (l : LineReader A). HasRead source_a.is_read start.lines l) (sym ends.1) (has_read_then source_a.is_read start.lines old.lines new.lines s.reads.0 (read never).0),
-        has_read_then source_b.is_read (below start.records) (below old.records) (below new.records) s.reads.1 (read never).1,
-      );
-      own_first = kept_below source_a.is_read start.lines ends.0 new.lines ends.1 ends.3 (own_then source_a.is_read start.lines old.lines (line_fault new.lines) new.lines s.reads.0 own);
-      own_second = own_then source_b.is_read (below start.records) (below old.records) (view_of new.records).fault (below new.records) s.reads.1 own_now;
+      none_kept = λ never. (rw ends.1 (none never).0, (none never).1);
+      kept_first = kept_there ends.0 new.lines ends.1 ends.3;
+      kept_second = kept;
     },
   )
 
@@ -178,25 +160,24 @@ module _ {A B : Type 0} {source_a : Source A} {source_b : Source B} {start : Mas
     abbrev with_lines : MaskRun A B
     with_lines = record old { lines = lines_now }
 
-    pub lines_filled : FillsLines source_a old.lines (Ok true) lines_now → HasRead source_a.is_read old.lines lines_now → MaskComes source_a source_b start out with_lines grown × Filled with_lines
-    lines_filled fills read =
+    pub lines_filled : FillsLines source_a old.lines (Ok true) lines_now → MaskComes source_a source_b start out with_lines grown × Filled with_lines
+    lines_filled fills =
         let f = line_filled s.goes.1 (is_wanted old.mask.want WantA wants) lines_now fills.kept fills.answers in
-        (came with_lines grown f.0 read same_second, f.1)
+        (record { goes = f.0 }, f.1)
 
-    pub lines_over : FillsLines source_a old.lines (Ok false) lines_now → HasRead source_a.is_read old.lines lines_now → (masked : Masking)
+    pub lines_over : FillsLines source_a old.lines (Ok false) lines_now → (masked : Masking)
         → ((stage : MaskStage) → MaskStandsAt stage old.mask → MaskMovesTo old.mask.how old.mask.full (with_lines_ended stage) masked)
         → MaskComes source_a source_b start out (record old { lines = lines_now; mask = masked }) grown × Filled (record old { lines = lines_now; mask = masked })
-    lines_over fills read masked stands =
+    lines_over fills masked stands =
         let f = lines_ended s.goes.1 (is_wanted old.mask.want WantA wants) lines_now fills.kept fills.answers masked (stands s.goes.1.stage s.goes.1.stands) in
-        (came (record old { lines = lines_now; mask = masked }) grown f.0 read same_second, f.1)
+        (record { goes = f.0 }, f.1)
 
-    pub lines_stopped : {T : Type 0} (fault : Fault) (result : Result T Fault) → IsErrAnd result (λ e. e ≡ fault) → FillsLines source_a old.lines (Err fault) lines_now
-        → TellsOwnFailure {A = Bool} source_a.is_read old.lines (Err fault) lines_now → Leads Filled result with_lines grown
-    lines_stopped {T} fault result is fills own =
+    pub lines_stopped : {T : Type 0} (fault : Fault) (result : Result T Fault) → IsErrAnd result (λ e. e ≡ fault) → FillsLines source_a old.lines (Err fault) lines_now → Leads Filled result with_lines grown
+    lines_stopped {T} fault result is fills =
         passed_on (λ (r : Result T Fault). Leads Filled r with_lines grown) result fault is
         (ended (Some (fault_value fault)) with_lines grown
         (stops_lines s.goes.1 (is_wanted old.mask.want WantA wants) (fault_value fault) lines_now fills.answers fills.kept)
-        (λ never. ((own none_first).read never, same_second)) (line_told_kept source_a.is_read old.lines lines_now fault fills.answers.kept none_first own) own_second)
+        (λ never. (line_none (line_fault lines_now) (fault_value fault) fills.answers.kept never, clear_second)) kept_second)
 
   -- ---- the records are
 
@@ -207,15 +188,14 @@ module _ {A B : Type 0} {source_a : Source A} {source_b : Source B} {start : Mas
     pub records_filled : FillsBlocks source_b old.records (Ok true) records_now → MaskComes source_a source_b start out with_records grown × Filled with_records
     records_filled fills =
         let f = record_filled s.goes.1 (is_wanted old.mask.want WantB wants) (view_of records_now) (block_filled source_b old.records records_now fills) in
-        (came with_records grown f.0 same_first fills.own_failure, f.1)
+        (record { goes = f.0 }, f.1)
 
     pub records_stopped : {T : Type 0} (fault : Fault) (result : Result T Fault) → IsErrAnd result (λ e. e ≡ fault) → FillsBlocks source_b old.records (Err fault) records_now → Leads Filled result with_records grown
     records_stopped {T} fault result is fills =
         passed_on (λ (r : Result T Fault). Leads Filled r with_records grown) result fault is
         (ended (Some (fault_value fault)) with_records grown
         (stops_records s.goes.1 (is_wanted old.mask.want WantB wants) (fault_value fault) (view_of records_now) (block_stopped source_b old.records records_now fault fills))
-        (λ never. (same_first, (fills.own_failure none_second).read never))
-        own_first (told_kept source_b.is_read (fault_kept old.records) (view_of records_now).fault (below old.records) (below records_now) fault fills.answers.kept none_second fills.own_failure))
+        (λ never. (clear_first, told_none none_second fills.answers never)) (told_kept none_second fills.answers))
 
     module _ (fills : FillsBlocks source_b old.records (Ok false) records_now) (masked : Masking) (later : Output) where
       abbrev with_end : MaskRun A B
@@ -226,24 +206,24 @@ module _ {A B : Type 0} {source_a : Source A} {source_b : Source B} {start : Mas
       records_over (Ok done) waits none =
           let f = records_ended s.goes.1 (is_wanted old.mask.want WantB wants) (view_of records_now) (block_over source_b old.records records_now fills) masked later done
           (λ waiting e. waits s.goes.1.stage waiting s.goes.1.stands e) (λ e. none s.goes.1.stage s.goes.1.stands e) in
-          (came with_end later f.0 same_first fills.own_failure, f.1)
+          (record { goes = f.0 }, f.1)
       records_over (Err fault) waits none =
           ended (Some (fault_value fault)) with_end later
           (records_unended s.goes.1 (is_wanted old.mask.want WantB wants) (view_of records_now) (block_over source_b old.records records_now fills) masked later fault
           (λ waiting e. waits s.goes.1.stage waiting s.goes.1.stands e) (λ e. none s.goes.1.stage s.goes.1.stands e))
-          (λ never. (same_first, fills.own_failure)) own_first
-          (none_kept source_b.is_read (below old.records) (view_of records_now).fault (below records_now) fills.answers.goes)
+          (λ never. (clear_first, none_tells (line_fault (below records_now)) ((block_over source_b old.records records_now fills).clear fills.answers.goes)))
+          (none_below (view_of records_now) (below records_now) fills.answers.goes)
 
   -- ---- what both have buffered was given
 
-  module _ (new : MaskRun A B) (later : Output) (read : HasRead source_a.is_read old.lines new.lines) (read_second : HasRead source_b.is_read (below old.records) (below new.records))
-      (keeps : line_fault new.lines ≡ line_fault old.lines) (keeps_second : fault_kept new.records ≡ fault_kept old.records) where
+  module _ (new : MaskRun A B) (later : Output) (keeps : line_fault new.lines ≡ line_fault old.lines) (keeps_second : fault_kept new.records ≡ fault_kept old.records)
+      (clear : fault_kept new.records ≡ None → line_fault (below new.records) ≡ None) where
     gave_by : {T : Type 0} (answer : Result T Fault) → AdvancesMask source_a source_b start out old.lines (view_of old.records) old.mask answer new.lines (view_of new.records) new.mask later → Leads (IsLessIfReady (mask_run source_a source_b) old) answer new later
-    gave_by (Ok done) gives = (came new later gives.0 read read_second, (gives.1, gives.2))
+    gave_by (Ok done) gives = (record { goes = gives.0 }, (gives.1, gives.2))
     gave_by (Err fault) ends =
-        ended (Some (fault_value fault)) new later ends (λ never. (read, read_second))
-        (none_kept source_a.is_read old.lines (line_fault new.lines) new.lines (keeps ∙ none_first))
-        (none_kept source_b.is_read (below old.records) (view_of new.records).fault (below new.records) (keeps_second ∙ none_second))
+        ended (Some (fault_value fault)) new later ends
+        (λ never. (none_tells (line_fault new.lines) (keeps ∙ none_first), none_tells (line_fault (below new.records)) (clear (keeps_second ∙ none_second))))
+        (none_below (view_of new.records) (below new.records) (keeps_second ∙ none_second))
 
     pub gave_both : {T : Type 0} (answer : Result T Fault)
         → ((start : MaskRun A B) (out : Output) → LoopGoesOn source_a source_b start out old.lines (view_of old.records) old.mask grown → AdvancesMask source_a source_b start out old.lines (view_of old.records) old.mask answer new.lines (view_of new.records) new.mask later)
@@ -253,7 +233,7 @@ module _ {A B : Type 0} {source_a : Source A} {source_b : Source B} {start : Mas
   -- both inputs have ended
   pub finished : wanted_by old.mask.want ≡ WantNothing → MaskIsOver source_a source_b start out None old grown
   finished wants =
-      ended None old grown (finishes s.goes.1 (is_wanted old.mask.want WantNothing wants)) (λ never. (same_first, same_second)) own_first own_second
+      ended None old grown (finishes s.goes.1 (is_wanted old.mask.want WantNothing wants)) (λ never. (clear_first, clear_second)) kept_second
 
 blocks_format : {S : Type 0} (records : Blocks S) → (view_of records).format ≡ block_format
 unfolding view_of view_with
@@ -283,7 +263,6 @@ module _ {A B : Type 0} (source_a : Source A) (source_b : Source B) where
         lines_over = λ e. absurd (false≢true e);
       },
     );
-    reads = (reads_same source_a.is_read start.lines start.lines refl, reads_same source_b.is_read (below start.records) (below start.records) refl);
   }
 
   -- and how it ends

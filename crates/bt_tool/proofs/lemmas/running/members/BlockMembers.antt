@@ -1,5 +1,5 @@
 -- Lemmas on a reader of records in blocks as one of members, and on a reader of lines at its end.
-use Rattle.bt_lines.proofs.Std.{◌≡◌, ℕ, Bool, true, false, List, [], take, None, Ok, Err, refl, ap, ◌∙◌, subst, option_map, IfSome_then, suc, ◌+◌, ◌-◌, ◌≤◌, ◌∷◌, ◌++◌, length, drop, Option, Some, sym, append_assoc, append-nil, length-append, arith, All, IfSome, drop-append_seam, All-append}
+use Rattle.bt_lines.proofs.Std.{◌≡◌, ℕ, Bool, true, false, List, [], take, None, Ok, Err, refl, ap, ◌∙◌, subst, option_map, IfSome_then, suc, ◌+◌, ◌-◌, ◌≤◌, ◌∷◌, ◌++◌, length, drop, Option, Some, sym, append_assoc, append-nil, length-append, arith, All, IfSome, drop-append_seam, All-append, inl}
 use Rattle.bt_lines.specs.declared.device.Source.{Ghosts as Source}
 use Rattle.bt_lines.proofs.lemmas.reader.lines.BufferedLemmas.{none_left}
 use Rattle.bt_lines.specs.calls.Reader.{buffered_bytes, buffered_in, fault_kept as line_fault, has_ended, is_open, lines_given, DropsLines, GivesEnd, GivesFault, IsKept, MakesLine, TakenLines, TakesLines, bytes_left, held, input_of, lines_left, source_of}
@@ -252,7 +252,18 @@ module _ {S : Type 0} (device : Source S) (full : Bool) where
 
     -- so it stops there
     pub refuses : (Kinds : Kind → Type 0) → Kinds kind → StopsAfter device old Kinds (past ++ members) fault refused
-    refuses Kinds of_kind = grind (arith, whole)
+    refuses Kinds of_kind = record {
+      bytes = (g.bytes.0 ++ [], hands_both device old.below lines new g.bytes.0 [] g.bytes.1 takes.hands);
+      cause = inl (inl (record {
+        whole = whole;
+        line = line.number;
+        kind = kind;
+        is = is;
+        of_kind = of_kind;
+        served = ap device.has_failed takes.source_is ∙ g.served;
+        within = (takes.kept g.kept).within clear;
+      }));
+    }
 
     lines_then : IfSome (lines_left device.left old.below) (λ all. lines_left device.left new ≡ Some (drop (lines_given new) all))
     lines_then =

@@ -299,6 +299,7 @@ good_whole format input text = grind arith
 pub record BeginsAt {S A State : Type 0} (left : S → Option (List ℕ)) (format : Format A State) (input : Input) (first : S) (old : MemberReader S A State) : Type 0 where
   pub source : source_of old.below ≡ first
   pub input_is : input_of old.below ≡ input
+  pub going : fault_kept old.below ≡ None
   pub bytes : bytes_taken old.below ≡ 0
   pub feeds : feeds_taken old.below ≡ 0
   pub lines : lines_left left old.below ≡ option_map text_lines (left first)

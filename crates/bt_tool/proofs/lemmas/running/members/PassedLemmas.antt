@@ -2,8 +2,7 @@
 use Rattle.bt_lines.proofs.Std.{◌≡◌, ℕ, suc, ◌+◌, ◌<◌, true, false, List, [], ◌∷◌, ◌++◌, length, take, Option, None, Some, Ok, Err, refl, sym, ap, ◌∙◌, subst, append_assoc, append-nil, arith, IfSome, IsTrue, option_map, ForSome, append_cancel_left, map-append, All-push}
 use Rattle.bt_lines.specs.declared.device.Source.{Ghosts as Source}
 use Rattle.bt_lines.specs.calls.Names.{fault_value}
-use Rattle.bt_lines.specs.calls.Reader.{HasRead, fault_kept as line_fault, lines_given}
-use Rattle.bt_lines.proofs.lemmas.reader.block.ReadsLemmas.{counts_none}
+use Rattle.bt_lines.specs.calls.Reader.{fault_kept as line_fault, lines_given}
 use Rattle.bt_lines.specs.declared.fault.Fault.{Fault}
 use Rattle.bt_bed.specs.model.Feature.{Feature, interval_of, intervals_of, Interval, last_of}
 use Rattle.bt_bed.specs.calls.SortedReader.{view_with}
@@ -64,11 +63,6 @@ pub has_taken : {S O : Type 0} {ghosts : Ghosts O} (device : Source S) (now new 
     → BeginsComing device.left (view_of now) → TakesRecords device now count new → HasTaken device (view_of now) records (view_of new)
 has_taken device now new count records are comes takes =
     consumed_of device (view_of now) (view_of new) records (line_going new) comes (subst (λ (l : List Feature). Takes device (view_of now) l (view_of new)) are takes.takes)
-
--- taking members reads nothing
-pub taken_reads : {S A State : Type 0} (device : Source S) (old : MemberReader S A State) (taken : List A) (new : MemberReader S A State) → HasTaken device old taken new
-    → HasRead device.is_read old.below new.below
-taken_reads device old taken new has = grind (arith, counts_none)
 
 -- ---- the order of records that were consumed
 

@@ -1,7 +1,7 @@
 -- How one stage of two inputs follows another.
 use Rattle.bt_lines.proofs.Std.{common_steps, rules, ◌≡◌, true, List, [], ◌∷◌, ◌++◌, ℕ, Bool, false, ◌||◌, Option, None, Some, refl, sym, ap, ◌∙◌, subst, append-nil, append_assoc, flat_map, option_to_list, is_none, option_map, list_all, false≢true, and_from, or_left, or_right, flat_map-append, list_all-append, suc, ◌≤◌, length, drop, ◌+◌, inl, inr, ◌⊎◌, All, IfSome, append_cancel_left, map-append, same_from_push, ◌<◌, Err, arith, All-push}
 use Rattle.bt_lines.specs.declared.device.Source.{Ghosts as Source}
-use Rattle.bt_lines.specs.calls.Reader.{end_told, source_of, lines_given, lines_left, Hands, HasRead}
+use Rattle.bt_lines.specs.calls.Reader.{end_told, source_of, lines_given, lines_left, Hands}
 use Rattle.bt_bed.specs.model.Good.{Member}
 use Rattle.bt_bed.specs.calls.Reading.{MemberReader, GivesMember, ahead_in, first_from, good_coming, members_from}
 use Rattle.bt_tool.specs.inside.Feed.{IsReadFor, PassesMembers, HasPut, member_items, AreAll, HasTaken}
@@ -383,11 +383,6 @@ some_buffered line items m e = grind arith
 -- and it is on the line after those given
 first_line : {A : Type 0} (line : ℕ) (items : List A) (m : Member A) → first_from line items ≡ Some m → m.line ≡ line
 first_line line items m e = grind arith
-
--- taking what is buffered reads nothing
-pub reads_taken : {S A State : Type 0} (device : Source S) (old : LineReader S) (taken : List A) (now new : MemberReader S A State) → HasTaken device now taken new
-    → HasRead device.is_read old now.below → HasRead device.is_read old new.below
-reads_taken device old taken now new has read = grind arith
 
 -- how far a reader has come
 pub record IsReadOn {S A State : Type 0} (device : Source S) (before now : MemberReader S A State) : Type 0 where

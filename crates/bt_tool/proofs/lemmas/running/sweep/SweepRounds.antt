@@ -4,17 +4,16 @@ use Rattle.bt_lines.specs.calls.Output.{HoldsBlock, Output}
 use Rattle.bt_sweep.specs.calls.Sweeping.{IsInOrder, MovesTo, StandsAt, AdvancesOn, AdvancesSo, HasWritten, StopsFor, EndsB, Sweeping, phase_is_over as is_done, want_in, want_of}
 use Rattle.bt_bed.specs.calls.Stage.{at_start, Stage, with_first_ended}
 use Rattle.bt_sweep.specs.calls.SweepView.{order_of as sweep_order, state_of}
-use Rattle.bt_tool.specs.inside.Feed.{IsFresh, KeepsOwnFault, ConsumesGiven}
+use Rattle.bt_tool.specs.inside.Feed.{IsFresh, IsKeptBelow, ConsumesGiven}
 use Rattle.bt_tool.specs.declared.loops.sweeping.SweepConfig.{SweepConfig}
 use Rattle.bt_tool.specs.inside.SweepLoop.{sweep_join, ReadsRest, SweepComes, SweepIsOver, Sweeps, config_of, left_to_sweep, records_pair, sweep_rounds, sweep_run}
 use Rattle.bt_tool.proofs.lemmas.running.members.MemberLemmas.{passes_start}
 use Rattle.bt_tool.proofs.lemmas.running.pair.PairTurns.{comes_start, some_buffered}
-use Rattle.bt_tool.proofs.lemmas.running.members.PassedLemmas.{line_going, taken_reads}
+use Rattle.bt_tool.proofs.lemmas.running.members.PassedLemmas.{line_going}
 use Rattle.bt_tool.proofs.lemmas.running.sweep.SweepFacts.{within_start}
 use Rattle.bt_lines.specs.declared.device.Source.{Ghosts as Source}
-use Rattle.bt_lines.proofs.lemmas.reader.block.ReadsLemmas.{has_read_then, reads_same}
 use Rattle.bt_lines.specs.calls.Names.{fault_value}
-use Rattle.bt_lines.specs.calls.Reader.{HasRead}
+use Rattle.bt_lines.specs.calls.Reader.{fault_kept as line_fault}
 use Rattle.bt_lines.specs.declared.fault.Fault.{Fault}
 use Rattle.bt_bed.specs.calls.CursorOf.{batch_cursor}
 use Rattle.bt_bed.specs.calls.SortedReader.{fault_in}
@@ -30,10 +29,10 @@ use Rattle.bt_sweep.specs.declared.sweep.Want.{Want}
 use Rattle.bt_sweep.specs.declared.sweep.Want.TheVariants.{A as WantA, B as WantB, Nothing}
 use Rattle.bt_tool.specs.declared.loops.sweeping.SweepRun.{SweepRun}
 use Rattle.bt_tool.specs.calls.Run.{AnswersNoRead, TellsNoRead}
-use Rattle.bt_tool.specs.inside.Pair.{HaveRead, PairEnds}
+use Rattle.bt_tool.specs.inside.Pair.{PairEnds}
 use Rattle.bt_tool.specs.inside.Rounds.{IsBuffered, IsLessIfReady, IsLessOrReady, LeadsTo}
 use Rattle.bt_tool.proofs.lemmas.running.sweep.SweptLemmas.{TakesBoth, ends_first, ends_second, fails_at_end, fails_both, fills_first, fills_second, finishes_both, goes_both, none_waits, placed_first, placed_second, in_order, stops_first, stops_second, takes_both, waiting, wants_first, wants_second}
-use Rattle.bt_tool.proofs.lemmas.running.whole.OwnFailureLemmas.{none_kept, own_then, told_kept}
+use Rattle.bt_tool.proofs.lemmas.running.whole.OwnFailureLemmas.{none_below, none_tells, told_kept, told_none}
 
 module _ {A B O : Type 0} {g : Ghosts O} (source_a : Source A) (source_b : Source B)
     (config : SweepConfig) (first : Records A O g) (second : Records B O g) (out : Output) where
@@ -132,31 +131,19 @@ module _ {A B O : Type 0} {g : Ghosts O} {source_a : Source A} {source_b : Sourc
 
   -- it has come to these
   abbrev comes_to : (new : SweepRun A B O g) (later : Output) → Sweeps source_a source_b (order_in start.first) (config_of (state_of start.sweep)) start.first start.second out new.first new.second (state_of new.sweep) later
-      → sweep_order new.sweep ≡ order → HaveRead (records_pair source_a source_b old.first old.second) (view_of new.first) (view_of new.second) → Goes new later
-  comes_to new later sweeps same read = record {
+      → sweep_order new.sweep ≡ order → Goes new later
+  comes_to new later sweeps same = record {
     begun = s.begun;
     sweeps = sweeps;
     order_is = same ∙ s.order_is;
-    reads = (
-      has_read_then source_a.is_read (below start.first) (below old.first) (below new.first) s.reads.0 read.0,
-      has_read_then source_b.is_read (below start.second) (below old.second) (below new.second) s.reads.1 read.1,
-    );
   }
 
   -- it has ended with these
   abbrev ends_with : (fault : Fault) (new : SweepRun A B O g) (later : Output)
       → PairEnds (sweep_join (order_in start.first) (config_of (state_of start.sweep))) (records_pair source_a source_b start.first start.second) out (Some (fault_value fault)) (view_of new.first) (view_of new.second) later
-      → (TellsNoRead (Some (fault_value fault)) → HaveRead (records_pair source_a source_b old.first old.second) (view_of new.first) (view_of new.second))
-      → KeepsOwnFault source_a.is_read (below old.first) (view_of new.first) → KeepsOwnFault source_b.is_read (below old.second) (view_of new.second) → Ends fault new later
-  ends_with fault new later ends read own own_second = record {
-    finishes = ends;
-    reads = λ never. (
-      has_read_then source_a.is_read (below start.first) (below old.first) (below new.first) s.reads.0 (read never).0,
-      has_read_then source_b.is_read (below start.second) (below old.second) (below new.second) s.reads.1 (read never).1,
-    );
-    own_first = own_then source_a.is_read (below start.first) (below old.first) (view_of new.first).fault (below new.first) s.reads.0 own;
-    own_second = own_then source_b.is_read (below start.second) (below old.second) (view_of new.second).fault (below new.second) s.reads.1 own_second;
-  }
+      → (TellsNoRead (Some (fault_value fault)) → TellsNoRead (line_fault (below new.first)) × TellsNoRead (line_fault (below new.second)))
+      → IsKeptBelow (view_of new.first) (below new.first) → IsKeptBelow (view_of new.second) (below new.second) → Ends fault new later
+  ends_with fault new later ends none kept kept_second = record { finishes = ends; none_kept = none; kept_first = kept; kept_second = kept_second }
 
   none_first : fault_kept old.first ≡ None
   none_first = s.sweeps.comes.first_passes.going
@@ -164,17 +151,17 @@ module _ {A B O : Type 0} {g : Ghosts O} {source_a : Source A} {source_b : Sourc
   none_second : fault_kept old.second ≡ None
   none_second = s.sweeps.comes.second_passes.going
 
-  same_first : HasRead source_a.is_read (below old.first) (below old.first)
-  same_first = reads_same source_a.is_read (below old.first) (below old.first) refl
+  clear_first : TellsNoRead (line_fault (below old.first))
+  clear_first = none_tells (line_fault (below old.first)) s.sweeps.comes.first_passes.clear
 
-  same_second : HasRead source_b.is_read (below old.second) (below old.second)
-  same_second = reads_same source_b.is_read (below old.second) (below old.second) refl
+  clear_second : TellsNoRead (line_fault (below old.second))
+  clear_second = none_tells (line_fault (below old.second)) s.sweeps.comes.second_passes.clear
 
-  own_first : KeepsOwnFault source_a.is_read (below old.first) (view_of old.first)
-  own_first = none_kept source_a.is_read (below old.first) (view_of old.first).fault (below old.first) none_first
+  kept_first : IsKeptBelow (view_of old.first) (below old.first)
+  kept_first = none_below (view_of old.first) (below old.first) none_first
 
-  own_second : KeepsOwnFault source_b.is_read (below old.second) (view_of old.second)
-  own_second = none_kept source_b.is_read (below old.second) (view_of old.second).fault (below old.second) none_second
+  kept_second : IsKeptBelow (view_of old.second) (below old.second)
+  kept_second = none_below (view_of old.second) (below old.second) none_second
 
   -- ---- the first input is read on
 
@@ -184,7 +171,7 @@ module _ {A B O : Type 0} {g : Ghosts O} {source_a : Source A} {source_b : Sourc
 
     pub first_filled : FillsRecords source_a old.first (Ok true) first_now → Goes with_first grown × Filled with_first
     first_filled fills = (
-      comes_to with_first grown (fills_first s wants first_now fills) refl (fills.own_failure, same_second),
+      comes_to with_first grown (fills_first s wants first_now fills) refl,
       inr (
         omega (arith, fills.answers.1.shrinks),
         subst (λ (w : Want). IsBuffered w (length (view_of first_now).buffered) (length (view_of old.second).buffered)) (sym wants)
@@ -200,7 +187,7 @@ module _ {A B O : Type 0} {g : Ghosts O} {source_a : Source A} {source_b : Sourc
           subst (λ (o : Order). (stage : Stage Feature Feature) → StandsAt o stage sweep → MovesTo o sweep (with_first_ended stage) (state_of now.sweep)) s.order_is ends s.sweeps.stage s.sweeps.stands in
           let none : (state_of now.sweep).current ≡ None = moves.stands.current_is ∙ none_waits s wants in
           let done : is_done (state_of now.sweep).phase ≡ true = ap is_done moves.stands.phase_is ∙ (grind arith) in (
-            comes_to now grown (rw (same, same_second_now) (ends_first s wants first_now (state_of now.sweep) fills moves)) same_order (rw same fills.own_failure, rw same_second_now same_second),
+            comes_to now grown (rw (same, same_second_now) (ends_first s wants first_now (state_of now.sweep) fills moves)) same_order,
             inl (rw (same, same_second_now) (omega (
               arith,
               fills.answers.shrinks,
@@ -213,8 +200,7 @@ module _ {A B O : Type 0} {g : Ghosts O} {source_a : Source A} {source_b : Sourc
     first_stopped {T} fault result is fills =
         passed_on (λ (r : Result T Fault). Leads Filled r with_first grown) result fault is
         (ends_with fault with_first grown (stops_first s wants fault first_now fills)
-        (λ never. ((fills.own_failure none_first).read never, same_second))
-        (told_kept source_a.is_read (fault_kept old.first) (view_of first_now).fault (below old.first) (below first_now) fault fills.answers.kept none_first fills.own_failure) own_second)
+        (λ never. (told_none none_first fills.answers never, clear_second)) (told_kept none_first fills.answers) kept_second)
 
   -- ---- the second is
 
@@ -224,7 +210,7 @@ module _ {A B O : Type 0} {g : Ghosts O} {source_a : Source A} {source_b : Sourc
 
     pub second_filled : FillsRecords source_b old.second (Ok true) second_now → Goes with_second grown × Filled with_second
     second_filled fills = (
-      comes_to with_second grown (fills_second s wants second_now fills) refl (same_first, fills.own_failure),
+      comes_to with_second grown (fills_second s wants second_now fills) refl,
       inr (
         omega (arith, fills.answers.1.shrinks),
         subst (λ (w : Want). IsBuffered w (length (view_of old.first).buffered) (length (view_of second_now).buffered)) (sym wants)
@@ -236,8 +222,7 @@ module _ {A B O : Type 0} {g : Ghosts O} {source_a : Source A} {source_b : Sourc
     second_stopped {T} fault result is fills =
         passed_on (λ (r : Result T Fault). Leads Filled r with_second grown) result fault is
         (ends_with fault with_second grown (stops_second s wants fault second_now fills)
-        (λ never. (same_first, (fills.own_failure none_second).read never))
-        own_first (told_kept source_b.is_read (fault_kept old.second) (view_of second_now).fault (below old.second) (below second_now) fault fills.answers.kept none_second fills.own_failure))
+        (λ never. (clear_first, told_none none_second fills.answers never)) kept_first (told_kept none_second fills.answers))
 
     module _ (fills : FillsRecords source_b old.second (Ok false) second_now) (now : SweepRun A B O g) (same_first_now : now.first ≡ old.first) (same : now.second ≡ second_now) (later : Output) where
       abbrev Ending : {T : Type 0} → Result T Fault → Type 0
@@ -249,7 +234,7 @@ module _ {A B O : Type 0} {g : Ghosts O} {source_a : Source A} {source_b : Sourc
       pub second_over : {T : Type 0} (answer : Result T Fault) → sweep_order now.sweep ≡ order → Ending answer → Leads Filled answer now later
       second_over (Ok done) same_order ends =
           let ended = ending (Ok done) ends in (
-            comes_to now later (rw (same_first_now, same) (ends_second s wants second_now (state_of now.sweep) later fills ended.0 ended.1)) same_order (rw same_first_now same_first, rw same fills.own_failure),
+            comes_to now later (rw (same_first_now, same) (ends_second s wants second_now (state_of now.sweep) later fills ended.0 ended.1)) same_order,
             inl (rw (same_first_now, same) (omega (
               arith,
               fills.answers.shrinks,
@@ -260,16 +245,13 @@ module _ {A B O : Type 0} {g : Ghosts O} {source_a : Source A} {source_b : Sourc
           )
       second_over {T} (Err fault) same_order ends =
           ends_with fault now later (rw (same_first_now, same) (fails_at_end s wants (fault_value fault) second_now later fills (ending {T = T} (Err fault) ends).1))
-          (λ never. (rw same_first_now same_first, rw same fills.own_failure)) (rw same_first_now own_first)
-          (rw same (none_kept source_b.is_read (below old.second) (view_of second_now).fault (below second_now) fills.answers.goes))
+          (λ never. (rw same_first_now clear_first, rw same (none_tells (line_fault (below second_now)) (line_going second_now fills.answers.goes)))) (rw same_first_now kept_first)
+          (rw same (none_below (view_of second_now) (below second_now) fills.answers.goes))
 
   -- ---- what both have buffered was given
 
   module _ (new : SweepRun A B O g) (later : Output) {firsts seconds last_firsts last_seconds : Batch}
       (consumes : ConsumesGiven source_a old.first firsts last_firsts new.first) (consumes_second : ConsumesGiven source_b old.second seconds last_seconds new.second) where
-    have_read : {fs ss : List Feature} → TakesBoth source_a source_b old.first old.second fs ss new.first new.second → HaveRead (records_pair source_a source_b old.first old.second) (view_of new.first) (view_of new.second)
-    have_read {fs} {ss} takes = (taken_reads source_a (view_of old.first) fs (view_of new.first) takes.first_taken, taken_reads source_b (view_of old.second) ss (view_of new.second) takes.second_taken)
-
     module _ (gives : AdvancesSo batch_cursor batch_cursor (order_in start.first) sweep firsts seconds grown (state_of new.sweep) last_firsts last_seconds later) where
       takes : TakesBoth source_a source_b old.first old.second gives.proceeds.firsts gives.proceeds.seconds new.first new.second
       takes = takes_both s consumes consumes_second gives.proceeds.firsts gives.proceeds.seconds gives.proceeds.gives_firsts gives.proceeds.gives_seconds
@@ -334,7 +316,7 @@ module _ {A B O : Type 0} {g : Ghosts O} {source_a : Source A} {source_b : Sourc
           fewer_written sweep.current swept.current (is_done sweep.phase) (is_done swept.phase) (room old.first + room old.second) (room new.first + room new.second) written.0 written.1 (omega (arith, rooms))
 
       came_further : Stops (want_in swept) ⊎ HasWritten sweep swept → sweep_order new.sweep ≡ order → Goes new later × Given new
-      came_further stops same = (comes_to new later (goes_both s consumes consumes_second swept later gives) same (have_read takes), (few, less stops))
+      came_further stops same = (comes_to new later (goes_both s consumes consumes_second swept later gives) same, (few, less stops))
 
     gave : {T : Type 0} (answer : Result T Fault) → sweep_order new.sweep ≡ order
         → AdvancesOn batch_cursor batch_cursor (order_in start.first) sweep firsts seconds grown answer (state_of new.sweep) last_firsts last_seconds later → Leads Given answer new later
@@ -342,9 +324,9 @@ module _ {A B O : Type 0} {g : Ghosts O} {source_a : Source A} {source_b : Sourc
     gave (Err fault) same fails =
         let takes = takes_both s consumes consumes_second fails.proceeds.firsts fails.proceeds.seconds fails.proceeds.gives_firsts fails.proceeds.gives_seconds in
         ends_with fault new later (fails_both s consumes consumes_second (fault_value fault) later fails)
-        (λ never. have_read takes)
-        (none_kept source_a.is_read (below old.first) (view_of new.first).fault (below new.first) (takes.first_taken.takes.goes ∙ none_first))
-        (none_kept source_b.is_read (below old.second) (view_of new.second).fault (below new.second) (takes.second_taken.takes.goes ∙ none_second))
+        (λ never. (none_tells (line_fault (below new.first)) (takes.first_taken.clear (takes.first_taken.takes.goes ∙ none_first)), none_tells (line_fault (below new.second)) (takes.second_taken.clear (takes.second_taken.takes.goes ∙ none_second))))
+        (none_below (view_of new.first) (below new.first) (takes.first_taken.takes.goes ∙ none_first))
+        (none_below (view_of new.second) (below new.second) (takes.second_taken.takes.goes ∙ none_second))
 
   pub gave_both : {T : Type 0} (new : SweepRun A B O g) (later : Output) (answer : Result T Fault) → sweep_order new.sweep ≡ order
       → ((firsts : Batch) × (seconds : Batch) × (last_firsts : Batch) × (last_seconds : Batch) × ConsumesGiven source_a old.first firsts last_firsts new.first × ConsumesGiven source_b old.second seconds last_seconds new.second
@@ -354,11 +336,11 @@ module _ {A B O : Type 0} {g : Ghosts O} {source_a : Source A} {source_b : Sourc
   -- ---- the first input has ended
 
   pub finished : {T : Type 0} (answer : Result T Fault) → want_in sweep ≡ Nothing → (second_now : Records B O g) → ReadsRest source_b (IsBedKind (order_in old.second)) (view_of old.second) answer (view_of second_now)
-      → (fault_kept old.second ≡ None → AnswersNoRead answer → HasRead source_b.is_read (below old.second) (below second_now)) → (fault_kept old.second ≡ None → KeepsOwnFault source_b.is_read (below old.second) (view_of second_now))
+      → (fault_kept old.second ≡ None → AnswersNoRead answer → TellsNoRead (line_fault (below second_now))) → (fault_kept old.second ≡ None → IsKeptBelow (view_of second_now) (below second_now))
       → SweepIsOver source_a source_b start out (fault_in answer) (record old { second = second_now }) grown
-  finished {T} answer wants second_now reads read own = record {
+  finished {T} answer wants second_now reads none kept = record {
     finishes = finishes_both s wants {T = T} answer second_now reads;
-    reads = λ never. (s.reads.0, has_read_then source_b.is_read (below start.second) (below old.second) (below second_now) s.reads.1 (read none_second (answers_none answer never)));
-    own_first = own_then source_a.is_read (below start.first) (below old.first) (view_of old.first).fault (below old.first) s.reads.0 own_first;
-    own_second = own_then source_b.is_read (below start.second) (below old.second) (view_of second_now).fault (below second_now) s.reads.1 (own none_second);
+    none_kept = λ never. (clear_first, none none_second (answers_none answer never));
+    kept_first = kept_first;
+    kept_second = kept none_second;
   }

@@ -1,24 +1,23 @@
 -- Lemmas on failed reads that are reported: each is of a read that failed in the run, whatever its source did before.
-use Rattle.bt_lines.proofs.Std.{rules, refl, suc, ◌≡◌, ℕ, Option, None, Some, Err, List, [], ap, sym, subst, ◌∙◌, inl, inr, arith, ◌≢◌, MatchResult, Ok, Result, false≢true, option_map, ◌-◌, ◌^◌, ◌++◌, take, IfSome}
+use Rattle.bt_lines.proofs.Std.{rules, refl, suc, ◌≡◌, ℕ, Option, None, Some, Err, List, [], ap, sym, subst, ◌∙◌, inl, inr, arith, ◌≢◌, ◌⊎◌, ◌≤◌, MatchResult, Ok, Result, false≢true, option_map, ◌-◌, ◌^◌, ◌++◌, take, IfSome}
 use Rattle.bt_lines.specs.declared.device.Source.{Ghosts as Source}
-use Rattle.bt_lines.proofs.lemmas.reader.block.ReadsLemmas.{memory_no_read, some_is, unread_then}
+use Rattle.bt_lines.proofs.lemmas.reader.block.ReadsLemmas.{all_served, memory_no_read, one_failed, some_is}
 use Rattle.bt_lines.specs.model.Fault.{FaultValue, read_failed}
 use Rattle.bt_lines.specs.calls.Faults.{no_memory, write_failed}
-use Rattle.bt_lines.specs.calls.Device.{ReadsFail, ReadsOn, begun}
+use Rattle.bt_lines.specs.calls.Device.{FailsAfter, ReadsOn, begun}
 use Rattle.bt_lines.specs.calls.Names.{fault_value}
 use Rattle.bt_lines.specs.calls.Output.{Output}
-use Rattle.bt_lines.specs.calls.Reader.{HasRead, IsUnread, TellsOwnFailure as LineTellsOwnFailure, bytes_taken, fault_kept as line_fault, source_of, Hands, IsSound, input_of, fault_kept, feeds_taken, lines_given, lines_left}
+use Rattle.bt_lines.specs.calls.Reader.{IsReadFailed, bytes_taken, fault_kept as line_fault, source_of, Hands, IsSound, input_of, fault_kept, feeds_taken, lines_given, lines_left}
 use Rattle.bt_lines.specs.declared.fault.Fault.{Fault}
 use Rattle.bt_lines.specs.declared.fault.Input.{Input}
 use Rattle.bt_lines.specs.declared.fault.Input.TheVariants.{First, Second, Genome as FromGenome}
 use Rattle.bt_lines.specs.declared.fault.Kind.{Kind}
 use Rattle.bt_lines.specs.declared.fault.Kind.TheVariants.{ReadFailed}
-use Rattle.bt_lines.specs.declared.reader.line.Line.{Line}
 use Rattle.bt_lines.specs.declared.reader.line_reader.LineReader.{LineReader}
 use Rattle.bt_bed.specs.model.Good.{Format, Member}
 use Rattle.bt_bed.specs.model.BedLine.{IsBedKind, fault_at_line}
 use Rattle.bt_bed.specs.model.Order.{Order}
-use Rattle.bt_bed.specs.calls.Reading.{MemberReader, TellsOwnFailure}
+use Rattle.bt_bed.specs.calls.Reading.{AnswersFault, Cause, MemberReader, is_of_line}
 use Rattle.bt_bed.specs.declared.order.genome.Genome.{Genome as GenomeTable}
 use Rattle.bt_bed.specs.model.Genome.{Entry, genome_of}
 use Rattle.bt_lines.specs.model.Lines.{Handed, TextLine, text_lines}
@@ -28,7 +27,7 @@ use Rattle.bt_tool.specs.model.Report.{behaviour_of, chromosomes_of}
 use Rattle.bt_tool.specs.calls.Inputs.{OfBoth, Reads}
 use Rattle.bt_tool.specs.calls.Run.{RunsAlone, RunsBy, AnswersNoRead, IsOwnFailure, ReadsServe, TellsNoRead, TellsOwnReads, KnowsChromosomes, LacksChromosomes}
 use Rattle.bt_tool.proofs.lemmas.running.feed.WritingLemmas.{behaves_alone}
-use Rattle.bt_tool.specs.inside.Feed.{HasFaultBehind, FeedsUpTo, Flushes, IsKeptBelow, IsOwnFault, KeepsOwnFault}
+use Rattle.bt_tool.specs.inside.Feed.{FeedStopCause, HasFaultBehind, FeedsUpTo, Flushes, IsKeptBelow}
 use Rattle.bt_tool.specs.inside.Pair.{InputsEnd, JoinDef, Pair, PairEnds, Why}
 use Rattle.bt_tool.specs.model.Written.{IsSweptKind}
 use Rattle.bt_tool.specs.declared.planning.plan_type.Command.{Command}
@@ -41,44 +40,61 @@ bed_no_read order kind = false≢true kind.0
 pub swept_no_read : (order : Order) (limit : Option ℕ) → IsSweptKind order limit ReadFailed → ⊥
 swept_no_read order limit p1 = grind arith
 
--- a reader that keeps no fault
-pub none_kept : {S : Type 0} (IsRead : S → Option (List ℕ) → S → Type 0) (old : LineReader S) (kept : Option FaultValue) (lines : LineReader S) → kept ≡ None → IsOwnFault IsRead old kept lines
-none_kept IsRead old kept lines none input line e = absurd (let apart : None ≡ Some (read_failed input line) = sym none ∙ e in cc)
+-- a reader that keeps no fault keeps no failed read
+pub none_tells : (kept : Option FaultValue) → kept ≡ None → TellsNoRead kept
+none_tells kept none input line e = let apart : None ≡ Some (read_failed input line) = sym none ∙ e in cc
 
--- one that keeps the fault that it reported
-pub told_kept : {S : Type 0} (IsRead : S → Option (List ℕ) → S → Type 0) (before kept : Option FaultValue) (old lines : LineReader S) (fault : Fault) → kept ≡ Some (fault_value fault) → before ≡ None
-    → TellsOwnFailure {T = Unit {0}} IsRead before old (Err fault) lines → IsOwnFault IsRead old kept lines
-told_kept IsRead before kept old lines fault is none own input line e = (own none).unread input line (sym is ∙ e)
+pub none_below : {S A State : Type 0} (reader : MemberReader S A State) (lines : LineReader S) → reader.fault ≡ None → IsKeptBelow reader lines
+none_below reader lines none input line e = absurd (none_tells reader.fault none input line e)
 
--- the same of a reader of lines
-pub line_told_kept : {S : Type 0} (IsRead : S → Option (List ℕ) → S → Type 0) (old lines : LineReader S) (fault : Fault) → line_fault lines ≡ Some (fault_value fault) → line_fault old ≡ None
-    → LineTellsOwnFailure {A = Option Line} IsRead old (Err fault) lines → IsOwnFault IsRead old (line_fault lines) lines
-line_told_kept IsRead old lines fault is none own input line e = (own none).unread input line (sym is ∙ e)
+-- nor does one that ran out of memory
+memory_tells : (kept : Option FaultValue) → kept ≡ Some no_memory → TellsNoRead kept
+memory_tells kept is input line e = memory_no_read input line (some_is no_memory (read_failed input line) (sym is ∙ e))
 
--- it is one of the reads since before those that served
-pub own_then : {S : Type 0} (IsRead : S → Option (List ℕ) → S → Type 0) (old now : LineReader S) (kept : Option FaultValue) (lines : LineReader S) → HasRead IsRead old now → IsOwnFault IsRead now kept lines → IsOwnFault IsRead old kept lines
-own_then IsRead old now kept lines so_far own input line e = unread_then IsRead old now lines so_far (own input line e)
+-- what a reader of members reports is kept by its reader of lines, if it is a failed read
+module _ {S A State : Type 0} {device : Source S} {old new : MemberReader S A State} {fault : FaultValue} where
+  cause_kept : Cause device old fault new → (input : Input) (line : ℕ) → fault ≡ read_failed input line → line_fault new.below ≡ Some (read_failed input line)
+  cause_kept (inl wrong) input line e = let kind : ReadFailed ≡ wrong.kind = ap (λ (f : FaultValue). f.kind) (sym e ∙ wrong.place) in absurd (false≢true (ap is_of_line kind ∙ wrong.of_line))
+  cause_kept (inr (inl unread)) input line e = unread.fails.kept ∙ ap Some e
+  cause_kept (inr (inr ran)) input line e = absurd (memory_no_read input line (sym ran.is ∙ e))
 
--- what its reader of lines keeps
-pub kept_below : {S A State : Type 0} (IsRead : S → Option (List ℕ) → S → Type 0) (old : LineReader S) (reader : MemberReader S A State) (lines : LineReader S) → reader.below ≡ lines → IsKeptBelow reader lines → IsOwnFault IsRead old (line_fault lines) lines
-    → KeepsOwnFault IsRead old reader
-kept_below IsRead old reader lines is below own input line e = subst (IsOwnFault IsRead old (line_fault lines)) (sym is) own input line (below input line e)
+  -- and if it isn't, that one keeps none
+  cause_none : Cause device old fault new → TellsNoRead (Some fault) → TellsNoRead (line_fault new.below)
+  cause_none (inl wrong) never = none_tells (line_fault new.below) wrong.going
+  cause_none (inr (inl unread)) never = λ input line e. never input line (sym unread.fails.kept ∙ e)
+  cause_none (inr (inr ran)) never =
+      elim ran.checked [
+        | inl kept ↦ memory_tells (line_fault new.below) kept.0
+        | inr unkept ↦ none_tells (line_fault new.below) unkept.going
+      ]
+
+  pub told_kept : old.fault ≡ None → AnswersFault device old fault new → IsKeptBelow new new.below
+  told_kept none answers input line e = cause_kept (answers.first none) input line (some_is fault (read_failed input line) (sym answers.kept ∙ e))
+
+  pub told_none : old.fault ≡ None → AnswersFault device old fault new → TellsNoRead (Some fault) → TellsNoRead (line_fault new.below)
+  told_none none answers never = cause_none (answers.first none) never
+
+-- of a reader of lines itself
+pub line_none : (kept : Option FaultValue) (fault : FaultValue) → kept ≡ Some fault → TellsNoRead (Some fault) → TellsNoRead kept
+line_none kept fault is never input line e = never input line (sym is ∙ e)
+
+pub kept_there : {S A State : Type 0} (reader : MemberReader S A State) (lines : LineReader S) → reader.below ≡ lines → IsKeptBelow reader lines → IsKeptBelow reader reader.below
+kept_there reader lines is kept = rw is kept
 
 -- the reads of a reader are those of its run
-pub own_failure_of : {S : Type 0} (IsRead : S → Option (List ℕ) → S → Type 0) (first last : S) (old new : LineReader S) → source_of old ≡ first → source_of new ≡ last → bytes_taken old ≡ 0 → IsUnread IsRead old new → IsOwnFailure IsRead first last
-own_failure_of IsRead first last old new starts ends fresh (inl fails) = inl (subst (λ s. ReadsFail IsRead s last) starts (subst (λ s. ReadsFail IsRead (source_of old) s) ends fails))
-own_failure_of IsRead first last old new starts ends fresh (inr past) = inr (
-  past.0.bytes,
-  subst (λ s. ReadsOn IsRead s past.0.bytes last) starts (subst (λ s. ReadsOn IsRead (source_of old) past.0.bytes s) ends past.0.served),
-  omega (arith, past.0.counted, fresh, past.1),
-)
+module _ {S : Type 0} (device : Source S) {first last : S} {old new : LineReader S} (starts : source_of old ≡ first) (ends : source_of new ≡ last) (hands : (bytes : List ℕ) × Hands device old bytes new) where
+  pub served_of : TellsNoRead (line_fault new) → ReadsServe device.is_read first last
+  served_of never = record {
+    bytes = hands.0;
+    served = rw (← starts, ← ends) (all_served device hands.1 (λ failed. never failed.0 failed.1 failed.2));
+  }
 
--- what the reads of a reader gave is what those of its run did
-pub served_of : {S : Type 0} (IsRead : S → Option (List ℕ) → S → Type 0) (first last : S) (old new : LineReader S) → source_of old ≡ first → source_of new ≡ last → HasRead IsRead old new → ReadsServe IsRead first last
-served_of IsRead first last old new starts ends read = record {
-  bytes = read.bytes;
-  served = subst (λ s. ReadsOn IsRead s read.bytes last) starts (subst (λ s. ReadsOn IsRead (source_of old) read.bytes s) ends read.served);
-}
+  pub own_failure_of : bytes_taken old ≡ 0 → line_fault old ≡ None → IsReadFailed (line_fault new) → IsOwnFailure device.is_read first last
+  own_failure_of fresh none failed = go (one_failed device hands.1 none failed)
+    where
+      go : FailsAfter device.is_read (source_of old) hands.0 (source_of new) ⊎ (ReadsOn device.is_read (source_of old) hands.0 (source_of new) × (2 ^ 63 ≤ bytes_taken new)) → IsOwnFailure device.is_read first last
+      go (inl fails) = inl (hands.0, rw (← starts, ← ends) fails)
+      go (inr past) = inr (hands.0, rw (← starts, ← ends) past.0, omega (arith, hands.1.counted, fresh, past.1))
 
 -- a source that wasn't read
 pub serve_same : {S : Type 0} (IsRead : S → Option (List ℕ) → S → Type 0) (source : S) → ReadsServe IsRead source source
@@ -106,26 +122,19 @@ runs_alone {source_a} {source_b} chromosomes same same_settle e {fault} runs = r
   own_failure = tells_first _ _ fault runs.own_failure;
 }
 
--- the members of the first input were fed to an engine up to a fault
-module _ {S A State : Type 0} (device : Source S) {format : Format A State} {first : S} {old : MemberReader S A State} (begins : BeginsAt device.left format First first old)
-    (new : MemberReader S A State) {last : S} (ended : source_of new.below ≡ last) (own : KeepsOwnFault device.is_read old.below new) where
-  pub feeds_own : {settled : List A → List ℕ} (Kinds : Kind → Type 0) → (Kinds ReadFailed → ⊥) → (Sorted : List A → Type 0) {out : Output} {fault : FaultValue} {grown : Output}
-      → FeedsUpTo settled Kinds Sorted device old out fault new grown → TellsOwnReads ⊥ (IsOwnFailure device.is_read first last) ⊥ (Some fault)
-  feeds_own Kinds never Sorted fed = grind arith
-
 -- the fault that lies behind the members of a reader
 same_input : (one other : Input) (m n : ℕ) → read_failed one m ≡ read_failed other n → one ≡ other
 same_input one other m n e = grind arith
 
 behind_own : {S A State : Type 0} (device : Source S) {format : Format A State} {which : Input} {before after : S} {old new : MemberReader S A State}
-    → BeginsAt device.left format which before old → source_of new.below ≡ after → (Kinds : Kind → Type 0) → (Kinds ReadFailed → ⊥) → KeepsOwnFault device.is_read old.below new
+    → BeginsAt device.left format which before old → source_of new.below ≡ after → (Kinds : Kind → Type 0) → (Kinds ReadFailed → ⊥) → (bytes : List ℕ) × Hands device old.below bytes new.below → IsKeptBelow new new.below
     → (past : List (Member A)) (other : FaultValue) → HasFaultBehind device old Kinds past other new
     → (input : Input) (line : ℕ) → other ≡ read_failed input line → (input ≡ which) × IsOwnFailure device.is_read before after
-behind_own device begins ended Kinds never own past other (inl wrong) input line e =
+behind_own device begins ended Kinds never hands kept past other (inl wrong) input line e =
     absurd (never (subst Kinds (ap (λ (f : FaultValue). f.kind) (sym wrong.is ∙ e)) wrong.of_kind))
-behind_own device {before = before} {after = after} {old = old} {new = new} begins ended Kinds never own past other (inr unread) input line e = (
+behind_own device {old = old} {new = new} begins ended Kinds never hands kept past other (inr unread) input line e = (
   same_input input (input_of old.below) line (suc (lines_given new.below)) (sym e ∙ unread.is) ∙ begins.input_is,
-  own_failure_of device.is_read before after old.below new.below begins.source ended begins.bytes (own input line (unread.kept ∙ ap Some e)),
+  own_failure_of device begins.source ended hands begins.bytes begins.going (input, line, kept input line (unread.kept ∙ ap Some e)),
 )
 
 module _ {F S : Type 0} {fault : Option FaultValue} where
@@ -151,11 +160,26 @@ module _ {F S : Type 0} {fault : Option FaultValue} where
       second_input = λ line e. (own Second line (some_is other (read_failed Second line) (sym is ∙ e))).1;
     }
 
+-- the members of the first input were fed to an engine up to a fault
+module _ {S A State : Type 0} (device : Source S) {format : Format A State} {first : S} {old : MemberReader S A State} (begins : BeginsAt device.left format First first old)
+    (new : MemberReader S A State) {last : S} (ended : source_of new.below ≡ last) (kept : IsKeptBelow new new.below) where
+  pub feeds_own : {settled : List A → List ℕ} (Kinds : Kind → Type 0) → (Kinds ReadFailed → ⊥) → (Sorted : List A → Type 0) {out : Output} {fault : FaultValue} {grown : Output}
+      → FeedsUpTo settled Kinds Sorted device old out fault new grown → TellsOwnReads ⊥ (IsOwnFailure device.is_read first last) ⊥ (Some fault)
+  feeds_own {settled} Kinds never Sorted {out} {fault} {grown} fed = go fed.cause
+    where
+      go : FeedStopCause settled Kinds Sorted device old out fed.past fault new grown → TellsOwnReads ⊥ (IsOwnFailure device.is_read first last) ⊥ (Some fault)
+      go (inl taking) =
+          elim taking.cause [
+            | inl fails ↦ own_of_first fault refl (behind_own device begins ended Kinds never fed.took.bytes kept fed.past fault fails)
+            | inr lacks ↦ own_of_none (memory_tells (Some fault) (ap Some lacks.is))
+          ]
+      go (inr writing) = tells_write ⊥ (IsOwnFailure device.is_read first last) ⊥ fault writing.is
+
 -- a run over two readers ended
 module _ {A B X Y U V : Type 0} {join : JoinDef X Y} {pair : Pair A B X Y U V} {out : Output} {first_format : Format X U} {second_format : Format Y V}
     {one_before : A} {two_before : B} (begins : BeginsAt pair.source_a.left first_format First one_before pair.first) (begins_second : BeginsAt pair.source_b.left second_format Second two_before pair.second)
     {first : MemberReader A X U} {second : MemberReader B Y V} {one_after : A} {two_after : B} (ended : source_of first.below ≡ one_after) (ended_second : source_of second.below ≡ two_after) {fault : Option FaultValue} {grown : Output}
-    (w : PairEnds join pair out fault first second grown) (no_first : join.first_kinds ReadFailed → ⊥) (no_second : join.second_kinds ReadFailed → ⊥) (own : KeepsOwnFault pair.source_a.is_read pair.first.below first) (own_second : KeepsOwnFault pair.source_b.is_read pair.second.below second) where
+    (w : PairEnds join pair out fault first second grown) (no_first : join.first_kinds ReadFailed → ⊥) (no_second : join.second_kinds ReadFailed → ⊥) (kept : IsKeptBelow first first.below) (kept_second : IsKeptBelow second second.below) where
   pub both_own : TellsOwnReads ⊥ (IsOwnFailure pair.source_a.is_read one_before one_after) (IsOwnFailure pair.source_b.is_read two_before two_after) fault
   both_own = own_by w.why
     where
@@ -163,10 +187,10 @@ module _ {A B X Y U V : Type 0} {join : JoinDef X Y} {pair : Pair A B X Y U V} {
       Tells = TellsOwnReads ⊥ (IsOwnFailure pair.source_a.is_read one_before one_after) (IsOwnFailure pair.source_b.is_read two_before two_after) fault
 
       first_own : (past : List (Member X)) (other : FaultValue) → fault ≡ Some other → HasFaultBehind pair.source_a pair.first join.first_kinds past other first → Tells
-      first_own past other is fails = own_of_first other is (behind_own pair.source_a begins ended join.first_kinds no_first own past other fails)
+      first_own past other is fails = own_of_first other is (behind_own pair.source_a begins ended join.first_kinds no_first w.wrote.first_bytes kept past other fails)
 
       second_own : (past : List (Member Y)) (other : FaultValue) → fault ≡ Some other → HasFaultBehind pair.source_b pair.second join.second_kinds past other second → Tells
-      second_own past other is fails = own_of_second other is (behind_own pair.source_b begins_second ended_second join.second_kinds no_second own_second past other fails)
+      second_own past other is fails = own_of_second other is (behind_own pair.source_b begins_second ended_second join.second_kinds no_second w.wrote.second_bytes kept_second past other fails)
 
       of_kind : (other : FaultValue) (line : ℕ) (kind : Kind) → fault ≡ Some other → other ≡ fault_at_line Second line kind → join.second_kinds kind → Tells
       of_kind other line kind is at of = own_of_none (λ input n e. no_second (subst join.second_kinds (ap (λ (f : FaultValue). f.kind) (sym at ∙ some_is other (read_failed input n) (sym is ∙ e))) of))
@@ -248,12 +272,12 @@ module _ {G : Type 0} {device : Source G} {genome after : G} {old : LineReader G
   lacks_read {fault} stops next = lacks_by fault stops.bytes next (stops.first clear)
 
   -- a failed read that is reported is of a read that failed then
-  module _ (fault : FaultValue) (own : (input : Input) (line : ℕ) → fault ≡ read_failed input line → IsUnread device.is_read old new) where
+  module _ (fault : FaultValue) (bytes : (bytes : List ℕ) × Hands device old bytes new) where
     own_by : StopCause device old new fault → (other : Input) (line : ℕ) → fault ≡ read_failed other line → (other ≡ FromGenome) × IsOwnFailure device.is_read genome after
     own_by (inl wrong) other line e = absurd (false≢true (ap (λ (f : FaultValue). is_genome_kind f.kind) (sym e ∙ wrong.place) ∙ wrong.of_line))
     own_by (inr (inl unread)) other line e = (
       sym (grind arith) ∙ input,
-      own_failure_of device.is_read genome after old new source ended fresh (own other line e),
+      own_failure_of device source ended bytes fresh clear (other, line, unread.fails.kept ∙ ap Some e),
     )
     own_by (inr (inr ran)) other line e = absurd (memory_no_read other line (sym ran.is ∙ e))
 
@@ -264,6 +288,18 @@ module _ {G : Type 0} {device : Source G} {genome after : G} {old : LineReader G
       second_input = λ line e. let apart : Second ≡ FromGenome = (own_by cause Second line (some_is fault (read_failed Second line) e)).0 in cc;
     }
 
-  pub lacks_own : {fault : FaultValue} → ReadingStops device old new fault → ((input : Input) (line : ℕ) → fault ≡ read_failed input line → IsUnread device.is_read old new)
-      → TellsOwnReads (IsOwnFailure device.is_read genome after) ⊥ ⊥ (Some fault)
-  lacks_own {fault} stops own = tells_own fault own (stops.first clear)
+    -- if none is reported, none is kept
+    none_by : StopCause device old new fault → TellsNoRead (Some fault) → TellsNoRead (line_fault new)
+    none_by (inl wrong) never = none_tells (line_fault new) wrong.going
+    none_by (inr (inl unread)) never = line_none (line_fault new) fault unread.fails.kept never
+    none_by (inr (inr ran)) never = λ other line e. ran.no_read (other, line, e)
+
+  pub lacks_own : {fault : FaultValue} → ReadingStops device old new fault → TellsOwnReads (IsOwnFailure device.is_read genome after) ⊥ ⊥ (Some fault)
+  lacks_own {fault} stops = tells_own fault stops.bytes (stops.first clear)
+
+  -- all reads succeeded
+  pub all_read : {table : GenomeTable} → ReadsAll device old new table → ReadsServe device.is_read genome after
+  all_read reads = served_of device source ended reads.bytes (none_tells (line_fault new) reads.going)
+
+  pub lacks_none : {fault : FaultValue} → ReadingStops device old new fault → TellsNoRead (Some fault) → ReadsServe device.is_read genome after
+  lacks_none {fault} stops never = served_of device source ended stops.bytes (none_by fault stops.bytes (stops.first clear) never)

@@ -1,7 +1,7 @@
 use Rattle.bt_lines.proofs.Std.{None, refl, sym, ap, ◌∙◌}
 use Rattle.bt_lines.specs.calls.Reader.{source_of}
 use Rattle.bt_tool.proofs.lemmas.running.feed.DrivingLemmas.{IsFreshReader, own_up_to, writes_all, writes_up_to}
-use Rattle.bt_tool.proofs.lemmas.running.whole.OwnFailureLemmas.{kept_below, served_of, tells_nothing}
+use Rattle.bt_tool.proofs.lemmas.running.whole.OwnFailureLemmas.{kept_there, served_of, tells_nothing}
 use Rattle.bt_tool.proofs.loops.converting.convert.Goals as goal
 
 pub returns-in-Ok : goal.returns-in-Ok
@@ -22,7 +22,7 @@ returns-in-Ok g c =
     record {
       written = writes_all c.args.split c.args.cigar fresh_reader
           c.new-converter.ensures c.args.out.now.output done.0 (ap source_of done.1 ∙ ended) c.convert_all-converted.new.out.output done.2;
-      reads = λ never. (served_of g.A.Source.is_read c.args.first c.into_source-first.result c.new-lines.result c.convert_all-converted.new.lines reader.source ended (c.in-Ok.ensures.reads tt), tt);
+      reads = λ never. (served_of g.A.Source reader.source (ap source_of done.1 ∙ ended) done.2.took.bytes (rw done.1 (c.in-Ok.ensures.none_kept tt)), tt);
       own_failure = tells_nothing ⊥ _ ⊥ None refl;
     }
 
@@ -44,7 +44,7 @@ returns-in-Err g c =
     record {
       written = writes_up_to c.args.split c.args.cigar fresh_reader
           c.new-converter.ensures c.args.out.now.output done.0 (ap source_of done.1 ∙ ended) c.convert_all-converted.new.out.output done.2;
-      reads = λ never. (served_of g.A.Source.is_read c.args.first c.into_source-first.result c.new-lines.result c.convert_all-converted.new.lines reader.source ended (c.in-Err.ensures.reads never), tt);
+      reads = λ never. (served_of g.A.Source reader.source (ap source_of done.1 ∙ ended) done.2.took.bytes (rw done.1 (c.in-Err.ensures.none_kept never)), tt);
       own_failure = own_up_to c.args.split c.args.cigar fresh_reader c.new-converter.ensures c.args.out.now.output done.0 (ap source_of done.1 ∙ ended) c.convert_all-converted.new.out.output
-          (kept_below g.A.Source.is_read c.new-lines.result done.0 c.convert_all-converted.new.lines done.1 done.3 c.convert_all-converted.ensures.own_failure) done.2;
+          (kept_there done.0 c.convert_all-converted.new.lines done.1 done.3) done.2;
     }

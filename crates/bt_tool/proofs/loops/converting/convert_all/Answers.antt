@@ -1,15 +1,14 @@
 use Rattle.bt_lines.proofs.Std.{◌∙◌, ap, arith, refl, subst, ⊎_elim}
-use Rattle.bt_lines.proofs.lemmas.reader.block.ReadsLemmas.{has_read_then, reads_same}
 use Rattle.bt_lines.specs.calls.Line.{line_seen}
 use Rattle.bt_lines.specs.calls.Names.{fault_value}
 use Rattle.bt_lines.specs.declared.fault.Input.{Input}
-use Rattle.bt_lines.specs.calls.Reader.{HasRead}
+use Rattle.bt_lines.specs.calls.Reader.{fault_kept}
 use Rattle.bt_bed.proofs.lemmas.order.TableLemmas.{passed_on}
 use Rattle.bt_seq.specs.calls.Sam.{Converting}
 use Rattle.bt_tool.specs.inside.Feed.{ConvertsAll, LineRefused, sam_reader}
-use Rattle.bt_tool.specs.calls.Run.{AnswersNoRead}
+use Rattle.bt_tool.specs.calls.Run.{AnswersNoRead, TellsNoRead}
 use Rattle.bt_tool.proofs.lemmas.running.feed.DrivingLemmas.{converts_all, going_line, going_start, refused_no_read, stops_at_line, stops_reading, stops_writing}
-use Rattle.bt_tool.proofs.lemmas.running.whole.OwnFailureLemmas.{line_told_kept, own_then}
+use Rattle.bt_tool.proofs.lemmas.running.whole.OwnFailureLemmas.{line_none, none_tells}
 use Rattle.bt_tool.proofs.loops.converting.convert_all.Goals as goal
 
 pub loop-line-init : goal.loop-line-init
@@ -17,7 +16,6 @@ loop-line-init g c = record {
   going = going_start _ _ _ c.args.lines.now c.args.out.now.output c.requires.fresh c.requires.block;
   same = refl;
   input = c.input-input.ensures;
-  read = reads_same g.S.Source.is_read c.args.lines.now c.args.lines.now refl;
 }
 
 pub returns-in_err-line-clause-converts : goal.returns-in_err-line-clause-converts
@@ -32,19 +30,11 @@ returns-in_err-line-clause-converts g c =
       λ input line e. e,
     )
 
-pub returns-in_err-line-clause-reads : goal.returns-in_err-line-clause-reads
-returns-in_err-line-clause-reads g c =
+pub returns-in_err-line-clause-none_kept : goal.returns-in_err-line-clause-none_kept
+returns-in_err-line-clause-none_kept g c =
     let gives = rw c.in_err-line.was at c.next.follows.holds-at-none in
-    let now = c.loop-line.invariant in
-    passed_on (λ r. AnswersNoRead r → HasRead g.S.Source.is_read c.args.lines.now c.next.follows.lender-at-none) c.from_residual.result c.in_err-line.field-0.0 c.from_residual.ensures.1
-    (λ never. has_read_then g.S.Source.is_read c.args.lines.now c.loop-line.lines c.next.follows.lender-at-none now.read ((gives.own_failure now.going.fed.passes.going).read never))
-
-pub returns-in_err-line-clause-own_failure : goal.returns-in_err-line-clause-own_failure
-returns-in_err-line-clause-own_failure g c =
-    let gives = rw c.in_err-line.was at c.next.follows.holds-at-none in
-    let now = c.loop-line.invariant in
-    own_then g.S.Source.is_read c.args.lines.now c.loop-line.lines _ _ now.read
-    (line_told_kept g.S.Source.is_read c.loop-line.lines c.next.follows.lender-at-none c.in_err-line.field-0.0 gives.answers.kept now.going.fed.passes.going gives.own_failure)
+    passed_on (λ r. AnswersNoRead r → TellsNoRead (fault_kept c.next.follows.lender-at-none)) c.from_residual.result c.in_err-line.field-0.0 c.from_residual.ensures.1
+    (line_none (fault_kept c.next.follows.lender-at-none) (fault_value c.in_err-line.field-0.0) gives.answers.kept)
 
 pub loop-line-smaller : goal.loop-line-smaller
 loop-line-smaller g c =
@@ -61,7 +51,6 @@ loop-line-preserved g c =
           gives.sound (ap (λ (m : Converting). m.split) now.same) (ap (λ (m : Converting). m.with_cigar) now.same) written;
       same = written.3 ∙ now.same;
       input = now.input;
-      read = has_read_then g.S.Source.is_read c.args.lines.now c.loop-line.lines c.next.follows.lender-at-none now.read gives.own_failure;
     }
 
 pub returns-in_err-convert_line-clause-converts : goal.returns-in_err-convert_line-clause-converts
@@ -90,10 +79,10 @@ returns-in_err-convert_line-clause-converts g c =
     ))
     c.in_err-convert_line.ensures)
 
-pub returns-in_err-convert_line-clause-reads : goal.returns-in_err-convert_line-clause-reads
-returns-in_err-convert_line-clause-reads g c = λ never.
+pub returns-in_err-convert_line-clause-none_kept : goal.returns-in_err-convert_line-clause-none_kept
+returns-in_err-convert_line-clause-none_kept g c = λ never.
     let gives = rw (c.in_ok-line.was, c.in-Some.is) at c.next.follows.holds-at-none in
-    has_read_then g.S.Source.is_read c.args.lines.now c.loop-line.lines c.next.follows.lender-at-none c.loop-line.invariant.read gives.own_failure
+    none_tells (fault_kept c.next.follows.lender-at-none) gives.answers.goes
 
 pub returns-clause-converts : goal.returns-clause-converts
 returns-clause-converts g c =
@@ -105,7 +94,7 @@ returns-clause-converts g c =
       λ input line e. e,
     )
 
-pub returns-clause-reads : goal.returns-clause-reads
-returns-clause-reads g c = λ never.
+pub returns-clause-none_kept : goal.returns-clause-none_kept
+returns-clause-none_kept g c = λ never.
     let gives = rw (c.in_ok-line.was, c.in_default.is) at c.next.follows.holds-at-none in
-    has_read_then g.S.Source.is_read c.args.lines.now c.loop-line.lines c.next.follows.lender-at-none c.loop-line.invariant.read gives.own_failure
+    none_tells (fault_kept c.next.follows.lender-at-none) gives.answers.goes

@@ -6,7 +6,7 @@ use Rattle.bt_bed.specs.model.BedLine.{IsBedKind}
 use Rattle.bt_bed.specs.model.Good.{bed_format}
 use Rattle.bt_bed.specs.model.Sorted.{sorting_of}
 use Rattle.bt_bed.specs.calls.Orders.{ArePlaced}
-use Rattle.bt_bed.specs.calls.Records.{below, order_in, view_of}
+use Rattle.bt_bed.specs.calls.Records.{order_in, view_of}
 use Rattle.bt_tool.specs.inside.Feed.{AreInOrder, member_items}
 use Rattle.bt_tool.specs.model.Written.{Written}
 use Rattle.bt_tool.proofs.lemmas.running.feed.FeedLemmas.{goes_failed, goes_works}
@@ -38,12 +38,8 @@ returns-in-Err g c =
     record { stays = c.requires.stays; begins = c.requires.begins; taken = sorted; starts = starts; ended = ended } in
     record {
       written = rw records.order at (drives_fault driven _ _ _ _ _ c.in-Err.ensures.feeds);
-      reads = λ never. (
-        served_of g.A.Source.is_read c.args.first c.into_source-first.result (below c.new-records.result) (below c.feed_all-fed.new.records)
-            (ap source_of records.below ∙ reader.source) ended (c.in-Err.ensures.reads never),
-        tt,
-      );
-      own_failure = feeds_own g.A.Source starts (view_of c.feed_all-fed.new.records) ended c.feed_all-fed.ensures.own_failure
+      reads = λ never. (served_of g.A.Source starts.source ended c.in-Err.ensures.feeds.took.bytes (c.in-Err.ensures.none_kept never), tt);
+      own_failure = feeds_own g.A.Source starts (view_of c.feed_all-fed.new.records) ended c.feed_all-fed.ensures.kept
           (IsBedKind (order_in c.new-records.result)) (bed_no_read (order_in c.new-records.result)) (AreInOrder (order_in c.new-records.result)) c.in-Err.ensures.feeds;
     }
 
@@ -65,11 +61,7 @@ returns-in-Err-finish g c =
     record {
       written = rw records.order at (drives_cut driven _ _ _ fed (goes_failed c.feed_all-fed.new.out.output c.finish.new.out.output c.in-Err-finish.ensures.finishes.grows said.failed)
           said.is cuts.bytes cuts.goes_on cuts.front said.sink_failed);
-      reads = λ never. (
-        served_of g.A.Source.is_read c.args.first c.into_source-first.result (below c.new-records.result) (below c.feed_all-fed.new.records)
-            (ap source_of records.below ∙ reader.source) ended (c.in_default.ensures.reads tt),
-        tt,
-      );
+      reads = λ never. (served_of g.A.Source starts.source ended fed.took.bytes (c.in_default.ensures.none_kept tt), tt);
       own_failure = tells_write ⊥ _ ⊥ (fault_value c.in-Err-finish.fault) said.is;
     }
 
@@ -91,10 +83,6 @@ returns g c =
       written = rw records.order at (drives_all driven _ _ _ fed (goes_works _ _ c.in_default-finish.ensures.finishes.grows c.in_default-finish.ensures.finishes.answers.works)
           puts.bytes puts.goes_on puts.appends
           (c.in_default-finish.ensures.finishes.answers.works.sink_served));
-      reads = λ never. (
-        served_of g.A.Source.is_read c.args.first c.into_source-first.result (below c.new-records.result) (below c.feed_all-fed.new.records)
-            (ap source_of records.below ∙ reader.source) ended (c.in_default.ensures.reads tt),
-        tt,
-      );
+      reads = λ never. (served_of g.A.Source starts.source ended fed.took.bytes (c.in_default.ensures.none_kept tt), tt);
       own_failure = tells_nothing ⊥ _ ⊥ None refl;
     }

@@ -1,5 +1,4 @@
-use Rattle.bt_lines.specs.calls.Reader.{HasRead}
-use Rattle.bt_bed.specs.calls.Records.{below, room}
+use Rattle.bt_bed.specs.calls.Records.{room}
 use Rattle.bt_tool.proofs.lemmas.running.feed.FeedLemmas.{Going}
 use Rattle.bt_tool.proofs.loops.driving.feed_all.Given as goal
 
@@ -8,7 +7,6 @@ abbrev pub invariant-loop-records : goal.invariant-loop-records
 invariant-loop-records g l =
     Going g.E.Engine.definition l.initial.engine
     g.S.Source l.initial.records l.initial.out.output l.records l.engine l.out.output
-    × HasRead g.S.Source.is_read (below l.initial.records) (below l.records)
 
 abbrev pub decreases-loop-records : goal.decreases-loop-records
 decreases-loop-records g l = room l.records

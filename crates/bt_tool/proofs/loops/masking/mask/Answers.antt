@@ -1,7 +1,7 @@
 use Rattle.bt_lines.proofs.Std.{refl, sym, ◌∙◌, ap, false≢true}
 use Rattle.bt_lines.specs.calls.Reader.{source_of}
 use Rattle.bt_lines.specs.declared.fault.Input.TheVariants.{Second}
-use Rattle.bt_bed.specs.calls.Blocks.{below, view_of}
+use Rattle.bt_bed.specs.calls.Blocks.{view_of}
 use Rattle.bt_bed.proofs.lemmas.Definitions.{good_in_blocks}
 use Rattle.bt_tool.specs.model.Written.{mask_reaches, mask_settles}
 use Rattle.bt_tool.specs.inside.MaskLoop.{line_members, nothing_reached}
@@ -42,9 +42,8 @@ returns g c =
           (mask_settles c.args.how c.args.full) (mask_reaches c.args.full) (near_both (λ two. good_in_blocks Second two) (mask_needs c.args.how) begins begins_second
           ended ended_second ends.2.finishes);
       reads = λ never.
-          let served = ends.2.reads never in (
-            served_of g.A.Source.is_read c.args.sources.first c.into_source-first.result c.new-lines.result ends.0.below reader.source ended served.0,
-            served_of g.B.Source.is_read c.args.sources.second c.into_source-second.result (below c.new-records.result) (below c.run_two-fault.new.engine.records) (ap source_of records.below ∙ reader_2.source) ended_second served.1,
-          );
-      own_failure = both_own begins begins_second ended ended_second ends.2.finishes (λ kind. false≢true kind) (λ kind. false≢true kind) ends.2.own_first ends.2.own_second;
+          let none = ends.2.none_kept never in
+          let wrote = ends.2.finishes.wrote in
+          (served_of g.A.Source begins.source ended wrote.first_bytes none.0, served_of g.B.Source begins_second.source ended_second wrote.second_bytes none.1);
+      own_failure = both_own begins begins_second ended ended_second ends.2.finishes (λ kind. false≢true kind) (λ kind. false≢true kind) ends.2.kept_first ends.2.kept_second;
     }

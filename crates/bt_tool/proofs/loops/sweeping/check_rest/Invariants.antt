@@ -1,5 +1,4 @@
-use Rattle.bt_lines.specs.calls.Reader.{HasRead}
-use Rattle.bt_bed.specs.calls.Records.{below, room, view_of}
+use Rattle.bt_bed.specs.calls.Records.{room, view_of}
 use Rattle.bt_tool.proofs.lemmas.running.pair.PairTurns.{IsReadOn}
 use Rattle.bt_tool.proofs.loops.sweeping.check_rest.Given as goal
 
@@ -7,7 +6,6 @@ use Rattle.bt_tool.proofs.loops.sweeping.check_rest.Given as goal
 abbrev pub invariant-loop-second : goal.invariant-loop-second
 invariant-loop-second g l =
     IsReadOn g.B.Source (view_of l.initial.second) (view_of l.second)
-    × HasRead g.B.Source.is_read (below l.initial.second) (below l.second)
 
 abbrev pub decreases-loop-second : goal.decreases-loop-second
 decreases-loop-second g l = room l.second

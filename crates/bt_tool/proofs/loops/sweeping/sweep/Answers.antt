@@ -1,8 +1,7 @@
 use Rattle.bt_lines.proofs.Std.{refl, sym, ◌∙◌, ap}
-use Rattle.bt_lines.proofs.lemmas.reader.block.ReadsLemmas.{reads_same}
 use Rattle.bt_lines.specs.calls.Reader.{source_of}
 use Rattle.bt_lines.specs.declared.fault.Input.TheVariants.{Second}
-use Rattle.bt_bed.specs.calls.Records.{below, view_of}
+use Rattle.bt_bed.specs.calls.Records.{view_of}
 use Rattle.bt_bed.proofs.lemmas.Definitions.{placed_good}
 use Rattle.bt_sweep.specs.calls.SweepView.{state_of}
 use Rattle.bt_tool.specs.model.Written.{intersect_reaches, intersect_settles}
@@ -38,7 +37,6 @@ run_two-fault-requires g c =
           c.requires.block (state_of c.new-sweep.result)
           (rw (← records.order) at sweep.stands) refl;
       order_is = sweep.order ∙ sym records.order;
-      reads = (reads_same g.A.Source.is_read (below c.new-firsts.result) (below c.new-firsts.result) refl, reads_same g.B.Source.is_read (below c.new-seconds.result) (below c.new-seconds.result) refl);
     }
 
 pub returns : goal.returns
@@ -59,10 +57,8 @@ returns g c =
           (intersect_settles order c.args.config.shape c.args.config.rule) (intersect_reaches order)
           (near_both (λ two. placed_good Second order two c.requires.total) (sweep_needs order c.args.config) begins begins_second ended ended_second ends);
       reads = λ never.
-          let served = c.run_two-fault.ensures.reads never in (
-            served_of g.A.Source.is_read c.args.sources.first c.into_source-first.result (below c.new-firsts.result) (below c.run_two-fault.new.engine.first) (ap source_of records.below ∙ reader.source) ended served.0,
-            served_of g.B.Source.is_read c.args.sources.second c.into_source-second.result (below c.new-seconds.result) (below c.run_two-fault.new.engine.second) (ap source_of records_2.below ∙ reader_2.source) ended_second served.1,
-          );
+          let none = c.run_two-fault.ensures.none_kept never in
+          (served_of g.A.Source begins.source ended ends.wrote.first_bytes none.0, served_of g.B.Source begins_second.source ended_second ends.wrote.second_bytes none.1);
       own_failure = both_own begins begins_second ended ended_second ends
-          (bed_no_read order) (swept_no_read order c.args.config.limit) c.run_two-fault.ensures.own_first c.run_two-fault.ensures.own_second;
+          (bed_no_read order) (swept_no_read order c.args.config.limit) c.run_two-fault.ensures.kept_first c.run_two-fault.ensures.kept_second;
     }

@@ -1,14 +1,11 @@
 use Rattle.bt_lines.proofs.Std.{sym, ◌∙◌}
 use Rattle.bt_lines.proofs.lemmas.reader.lines.BufferedLemmas.{begins_lines}
-use Rattle.bt_lines.proofs.lemmas.reader.block.ReadsLemmas.{counts_none}
-use Rattle.bt_lines.specs.calls.Reader.{bytes_taken, source_of}
 use Rattle.bt_bed.proofs.lemmas.read.good.SaidRuns.{token_is}
-use Rattle.bt_bed.specs.calls.Blocks.{count_in, view_of}
+use Rattle.bt_bed.specs.calls.Blocks.{count_in}
 use Rattle.bt_tool.proofs.lemmas.running.members.BlockMembers.{blocks_given, blocks_taken, lent_are, lent_at, none_over}
 use Rattle.bt_tool.proofs.lemmas.running.members.CursorLemmas.{lines_consumed, lines_numbered}
 use Rattle.bt_tool.proofs.lemmas.running.mask.MaskBoth.{gives_both}
 use Rattle.bt_tool.proofs.lemmas.running.mask.MaskRounds.{gave_both}
-use Rattle.bt_tool.proofs.lemmas.running.members.PassedLemmas.{taken_reads}
 use Rattle.bt_tool.proofs.loops.masking.MaskRunTwoInputEngine.give_buffered.Goals as goal
 
 pub consume-requires : goal.consume-requires
@@ -36,8 +33,7 @@ returns g c = λ start out begun.
     let has = blocks_taken g.B.Source records c.consume-2.new.self (count_in records c.consumed-consumed-2.result) gives.taken taken c.buffered-beds.ensures.comes c.consume-2.ensures in
     gave_both begun
     (record { lines = c.consume.new.self; records = c.consume-2.new.self; mask = c.advance-masked.new.self }) c.advance-masked.new.out.output
-    (counts_none g.A.Source.is_read (source_of lines) (source_of c.consume.new.self) (bytes_taken lines) (bytes_taken c.consume.new.self) c.consume.ensures.source_is c.consume.ensures.taken_is)
-    (taken_reads g.B.Source (view_of records) gives.taken (view_of c.consume-2.new.self) has) c.consume.ensures.fault_is has.takes.goes
+    c.consume.ensures.fault_is has.takes.goes has.clear
     c.advance-masked.result (λ start before going.
     let s = going.1 in
     gives_both s begins last_lines gives.texts parts numbered (lent_are records c.buffered-beds.result c.buffered-beds.ensures.lends) (lent_at records c.buffered-beds.result c.buffered-beds.ensures.lends)

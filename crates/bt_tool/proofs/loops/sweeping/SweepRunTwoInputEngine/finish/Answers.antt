@@ -3,4 +3,4 @@ use Rattle.bt_tool.proofs.loops.sweeping.SweepRunTwoInputEngine.finish.Goals as 
 
 pub returns : goal.returns
 returns g c = λ grown start out s.
-    finished s c.check_rest.result c.requires c.check_rest.new.second c.check_rest.ensures.reads c.check_rest.ensures.rest c.check_rest.ensures.own_failure
+    finished s c.check_rest.result c.requires c.check_rest.new.second c.check_rest.ensures.reads c.check_rest.ensures.none_kept c.check_rest.ensures.kept
