@@ -1,6 +1,6 @@
 -- What a reader of lines holds, what its calls do, and the lines that are left of those buffered.
 use Rattle.std.specs.Prelude.{◌≡◌, ℕ, suc, ◌+◌, ◌-◌, ◌≤◌, Bool, true, false, List, ◌∷◌, drop, length, nat_lt, take, ◌≢◌, ◌^◌, ◌<◌, ◌⊎◌, [], ◌++◌, Option, Some, None, option_map, Result, Ok, Err, IfSome, IsSome, ⊤, vec_capacity}
-use Rattle.bt_lines.specs.calls.Line.{Shown, ending_at, line_seen, GivesFirst, line_feeds}
+use Rattle.bt_lines.specs.calls.Line.{Shown, ending_at, line_seen, line_feeds}
 use Rattle.bt_lines.specs.model.Lines.{TextLine, lines_from, whole_lines_from, bytes_in, spelled}
 use Rattle.bt_lines.specs.inside.Shape.{is_fed, held_at}
 use Rattle.bt_lines.specs.declared.reader.buffered_lines.BufferedLines.{BufferedLines}
@@ -131,6 +131,14 @@ module _ {S : Type 0} where
   lines_left left reader =
       option_map (lines_from (suc (lines_given reader))) (bytes_left left reader)
 
+  -- the lines that come after those given, if these bytes come from the source
+  unfoldable pub lines_coming : List ℕ → LineReader S → List TextLine
+  lines_coming rest reader = lines_from (suc (lines_given reader)) (held reader ++ rest)
+
+  -- these bytes may still come: none once the end was reported
+  abbrev pub MayFollow : LineReader S → List ℕ → Type 0
+  MayFollow reader rest = end_told reader ≡ true → rest ≡ []
+
   -- how many line feeds were taken: each ended a line that was given, or is held
   unfoldable pub feeds_taken : LineReader S → ℕ
   feeds_taken reader = lines_given reader + line_feeds (held reader)
@@ -154,6 +162,11 @@ module _ {S : Type 0} where
       × (fault_kept old ≡ None → IsReadFailed (fault_kept new) → 2 ^ 63 ≤ bytes_taken new))
       ⊎ (FailsAfter device.is_read (source_of old) bytes (source_of new) × IsReadFailed (fault_kept new))
 
+  -- Once the end was reported, nothing is handed over. If it is reported now, known bytes were all handed over.
+  unfoldable pub EndsKnown : Source S → LineReader S → List ℕ → LineReader S → Type 0
+  EndsKnown device old bytes new = (end_told old ≡ true → bytes ≡ [])
+      × (end_told old ≡ false → end_told new ≡ true → IfSome (device.left (source_of old)) (λ text. text ≡ bytes))
+
   -- the source handed over these bytes in the call
   pub record Hands (device : Source S) (old : LineReader S) (bytes : List ℕ)
       (new : LineReader S) : Type 0 where
@@ -161,6 +174,7 @@ module _ {S : Type 0} where
     -- after a fault nothing is read, and it is kept
     pub stops : IsSome (fault_kept old)
         → (bytes ≡ []) × (source_of new ≡ source_of old) × (fault_kept new ≡ fault_kept old)
+    pub ends : EndsKnown device old bytes new
     -- known bytes lose them
     pub left_over : Consumes (device.left (source_of old)) (device.left (source_of new)) bytes
     pub counted : bytes_taken new ≡ bytes_taken old + length bytes
@@ -174,11 +188,10 @@ module _ {S : Type 0} where
   -- a line was given
   pub record GivesLine (device : Source S) (old : LineReader S)
       (line : TextLine) (new : LineReader S) : Type 0 where
-    -- it is the first of the lines left, if these are known
-    pub first : GivesFirst (lines_left device.left old) line (lines_left device.left new)
-    -- the bytes taken are the line's and at most a block more, known or not
+    -- the bytes taken are the line's and at most a block more; it is the first of the lines that come, whatever follows
     pub bytes : (bytes : List ℕ) × Hands device old bytes new
         × (held old ++ bytes ≡ spelled line ++ held new)
+        × ((rest : List ℕ) → MayFollow new rest → lines_coming (bytes ++ rest) old ≡ line ∷ lines_coming rest new)
     pub ahead : length (held new) ≤ block_size
     -- nothing is read while a complete line is held
     pub ready : 0 < line_feeds (held old) → source_of new ≡ source_of old
@@ -192,9 +205,6 @@ module _ {S : Type 0} where
 
   -- the end was reached
   pub record GivesEnd (device : Source S) (old new : LineReader S) : Type 0 where
-    -- no line was left, if they are known, and none is
-    pub none_left : IfSome (lines_left device.left old) (λ lines. lines ≡ [])
-    pub none_comes : IfSome (lines_left device.left new) (λ lines. lines ≡ [])
     pub nothing_held : held new ≡ []
     pub counted : lines_given new ≡ lines_given old
     pub bytes : (bytes : List ℕ) × Hands device old bytes new × (held old ++ bytes ≡ [])
@@ -284,7 +294,6 @@ module _ {S : Type 0} where
   pub record MakesLine (device : Source S) (old new : LineReader S) : Type 0 where
     pub some : 0 < length (buffered_bytes new)
     pub bytes : (bytes : List ℕ) × Hands device old bytes new × (held new ≡ held old ++ bytes)
-    pub same : DropsLines (lines_left device.left old) 0 (lines_left device.left new)
     pub counted : lines_given new ≡ lines_given old
     -- nothing is read while a complete line is held
     pub ready : 0 < line_feeds (held old) → source_of new ≡ source_of old
@@ -320,10 +329,10 @@ module _ {S : Type 0} where
   abbrev pub buffered_in : LineReader S → List TextLine
   buffered_in reader = buffered_lines (is_open reader) (lines_given reader) (buffered_bytes reader)
 
-  -- the lines that are left begin with those that are buffered
-  abbrev pub IsPrefix : (S → Option (List ℕ)) → LineReader S → Type 0
-  IsPrefix left reader = IfSome (lines_left left reader) (λ lines.
-      take (length (buffered_in reader)) lines ≡ buffered_in reader)
+  -- the lines that come begin with those that are buffered, whatever follows
+  abbrev pub IsPrefix : LineReader S → Type 0
+  IsPrefix reader = (rest : List ℕ) → MayFollow reader rest
+      → take (length (buffered_in reader)) (lines_coming rest reader) ≡ buffered_in reader
 
   -- lines were consumed of those that are buffered
   pub record IsTaken (reader : LineReader S) (consumed : ConsumedLines) : Type 0 where
@@ -346,9 +355,9 @@ module _ {S : Type 0} where
     pub kept : IsKept device old → IsKept device new
     -- after the lines at most a block is held
     pub near : 0 < consumed.bytes → length (held new) ≤ block_size
-    -- of the lines that were left, the first `count` are gone
-    pub left_is : DropsLines (lines_left device.left old)
-        (line_feeds (take consumed.bytes (buffered_bytes old))) (lines_left device.left new)
+    -- of the lines that come, the first `count` are gone, whatever follows
+    pub left_is : (rest : List ℕ) → MayFollow new rest
+        → lines_coming rest new ≡ drop (line_feeds (take consumed.bytes (buffered_bytes old))) (lines_coming rest old)
     pub bytes : buffered_bytes new ≡ drop consumed.bytes (buffered_bytes old)
     pub given : lines_given new ≡ consumed.lines
     pub below : lines_given new < 2 ^ 63

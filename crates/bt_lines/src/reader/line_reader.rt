@@ -102,7 +102,7 @@ impl<S: Source> LineReader<S> {
     pub fn buffered(&self) -> BufferedLines<'_>
         ensures begins { BeginsLines (buffered_bytes self.now) (lines_given self.now) (is_open self.now) result }
         ensures lines { lines_in result ≡ buffered_in self.now }
-        ensures prefix { IsPrefix S.left self.now }
+        ensures prefix { IsPrefix self.now }
     {
         BufferedLines::new(self.buffer.lines(), self.lines, self.is_open())
     }

@@ -15,6 +15,7 @@ use Rattle.bt_bed.specs.calls.Reading.{IsLost, LinesPass}
 use Rattle.bt_bed.specs.model.BedLine.{fault_at_line}
 use Rattle.bt_lines.specs.declared.device.Source.{Ghosts as Source}
 use Rattle.bt_lines.proofs.lemmas.reader.block.ReadsLemmas.{hands_none, hands_both, memory_failed, none_failed}
+use Rattle.bt_lines.proofs.lemmas.reader.lines.LeftLemmas.{given_left, none_left}
 use Rattle.bt_lines.proofs.lemmas.reader.lines.TakingLemmas.{given_drops, sound_near, taken_below, not_told}
 use Rattle.bt_lines.proofs.lemmas.reader.lines.TextLemmas.{line_feeds-append}
 use Rattle.bt_lines.specs.calls.Output.{block_size}
@@ -136,7 +137,7 @@ module _ {S : Type 0} (device : Source S) where
   module _ (old now new : LineReader S) (p : Passed old now) where
     pub passed_line : (line : TextLine) → GivesLine device now line new → (IsSound device now → IsSound device new) → Passed old new
     passed_line line gives sound = record {
-      lines = pass_more (lines_left device.left old) (lines_left device.left now) (lines_left device.left new) (lines_given now - lines_given old) 1 (lines_given new - lines_given old) p.lines (given_drops (lines_left device.left now) line (lines_left device.left new) gives.first) (let one = gives.counted in let least = p.least in omega arith);
+      lines = pass_more (lines_left device.left old) (lines_left device.left now) (lines_left device.left new) (lines_given now - lines_given old) 1 (lines_given new - lines_given old) p.lines (given_drops (lines_left device.left now) line (lines_left device.left new) (given_left device now new line gives)) (let one = gives.counted in let least = p.least in omega arith);
       least = let one = gives.counted in let least = p.least in omega arith;
       bytes = (p.bytes.0 ++ gives.bytes.0, hands_both device old now new p.bytes.0 gives.bytes.0 p.bytes.1 gives.bytes.1);
       sound = λ was. sound (p.sound was);
@@ -346,7 +347,7 @@ module _ {S : Type 0} (device : Source S) (old : LineReader S) where
 
   pub going_line : (now next : LineReader S) (line : TextLine) (genome grown : Genome) → Going device old now genome → GivesLine device now line next → (IsSound device now → IsSound device next) → LineAdded line.text genome grown → Going device old next grown
   going_line now next line genome grown g gives sound added = record {
-    continues = rw added.added (continues_line (input_of old) (lines_left device.left old) (lines_left device.left now) (lines_left device.left next) (lines_given old) (entries genome) line g.continues gives.first gives.counted added.says);
+    continues = rw added.added (continues_line (input_of old) (lines_left device.left old) (lines_left device.left now) (lines_left device.left next) (lines_given old) (entries genome) line g.continues (given_left device now next line gives) gives.counted added.says);
     distinct = distinct_line line.text genome grown g.distinct added;
     stays = λ before e. let none = had_none now genome g gives.was_going.0 in cc;
     going = λ e. gives.goes;
@@ -355,7 +356,7 @@ module _ {S : Type 0} (device : Source S) (old : LineReader S) where
   }
 
   pub going_end : (now new : LineReader S) (genome : Genome) → Going device old now genome → GivesEnd device now new → ReadsAll device old new genome
-  going_end now new genome g gives = grind (arith, continues_end, (both now new g.passed.bytes (gives.bytes.0, gives.bytes.1)))
+  going_end now new genome g gives = grind (arith, continues_end, (both now new g.passed.bytes (gives.bytes.0, gives.bytes.1)), (none_left device now new gives))
 
   pub going_refused : (now next : LineReader S) (line : TextLine) (genome : Genome) (place : Place) (fault : FaultValue) → Going device old now genome → GivesLine device now line next
       → place ≡ record { input = input_of old; line = line.number } → IsWrong place (new_entry (names_of genome) (entry_of line.text)) fault → EntryIsWrong device old next fault
@@ -363,7 +364,7 @@ module _ {S : Type 0} (device : Source S) (old : LineReader S) where
       let is : fault ≡ fault_at_line (input_of old) line.number refused.kind = refused.is ∙ ap (λ (p : Place). fault_at_line p.input p.line refused.kind) at in
       let counted : line.number ≡ lines_given next = gives.number ∙ sym gives.counted in
       record {
-        is = rw is (continues_fault (input_of old) (lines_left device.left old) (lines_left device.left now) (lines_left device.left next) (lines_given old) (lines_given now) (entries genome) line refused.kind g.continues gives.first refused.says);
+        is = rw is (continues_fault (input_of old) (lines_left device.left old) (lines_left device.left now) (lines_left device.left next) (lines_given old) (lines_given now) (entries genome) line refused.kind g.continues (given_left device now next line gives) refused.says);
         kind = refused.kind;
         names = names_of genome;
         text = line.text;
@@ -408,7 +409,7 @@ module _ {S : Type 0} (device : Source S) (old : LineReader S) where
       record {
         again = λ before e. cc;
         first = λ going. inl (going_refused now next line genome place fault g gives at refused);
-        checked = rw is (last_wrong (input_of old) (lines_left device.left old) (lines_left device.left now) (lines_left device.left next) (lines_given old) (entries genome) line g.continues gives.first gives.counted refused.says);
+        checked = rw is (last_wrong (input_of old) (lines_left device.left old) (lines_left device.left now) (lines_left device.left next) (lines_given old) (entries genome) line g.continues (given_left device now next line gives) gives.counted refused.says);
         bytes = both now next g.passed.bytes (gives.bytes.0, gives.bytes.1);
         near = λ none was. near_line device old next (passed_line device old now next g.passed line gives sound) gives.goes was;
       }
@@ -416,7 +417,7 @@ module _ {S : Type 0} (device : Source S) (old : LineReader S) where
   going_unkept : (now next : LineReader S) (line : TextLine) (genome : Genome) (place : Place) (fault : FaultValue) → Going device old now genome → GivesLine device now line next → (IsSound device now → IsSound device next) → IsUnkept place (new_entry (names_of genome) (entry_of line.text)) fault → ReadingStops device old next fault
   going_unkept now next line genome place fault g gives sound unkept =
       let none = had_none now genome g gives.was_going.0 in
-      let more = continues_line (input_of old) (lines_left device.left old) (lines_left device.left now) (lines_left device.left next) (lines_given old) (entries genome) line g.continues gives.first gives.counted unkept.says in
+      let more = continues_line (input_of old) (lines_left device.left old) (lines_left device.left now) (lines_left device.left next) (lines_given old) (entries genome) line g.continues (given_left device now next line gives) gives.counted unkept.says in
       record {
         again = λ before e. cc;
         first = λ going. inr (inr (record { is = unkept.is; served = gives.served ∙ g.served; no_read = none_failed (fault_kept next) gives.goes }));

@@ -1,5 +1,6 @@
 -- Lemmas on reader, lines.
 pub mod BufferedLemmas
+pub mod LeftLemmas
 pub mod StepLemmas
 pub mod TakingLemmas
 pub mod TextLemmas

@@ -1,14 +1,15 @@
 -- Lemmas on a reader of sorted records.
 use Rattle.bt_lines.proofs.Std.{IfNone, rules, ◌≡◌, ℕ, suc, ◌-◌, ◌<◌, ◌≤◌, Bool, true, false, List, [], ◌∷◌, ◌++◌, length, take, drop, Option, Some, None, Ok, refl, sym, ap, ◌∙◌, subst, arith, length-take, take-append-drop, if◌then◌else◌, is_some, IfSome, IsTrue, option_map, ForSome, Result, Err, inl, inr}
 use Rattle.bt_lines.specs.declared.device.Source.{Ghosts as Source}
-use Rattle.bt_lines.proofs.lemmas.reader.lines.TakingLemmas.{is_prefix, next_bytes, next_number}
-use Rattle.bt_lines.specs.calls.Reader.{DropsLines, TakesLines, bytes_left, buffered_in as lines_buffered, fault_kept as line_fault, input_of, lines_given, lines_left, source_of, GivesEnd, GivesFault, IsKept, MakesLine}
+use Rattle.bt_lines.proofs.lemmas.reader.lines.LeftLemmas.{is_prefix, taken_left}
+use Rattle.bt_lines.proofs.lemmas.reader.lines.TakingLemmas.{next_bytes, next_number}
+use Rattle.bt_lines.specs.calls.Reader.{DropsLines, TakesLines, bytes_left, buffered_bytes, buffered_in as lines_buffered, fault_kept as line_fault, input_of, lines_given, lines_left, source_of, GivesEnd, GivesFault, IsKept, MakesLine}
 use Rattle.bt_lines.specs.model.Lines.{TextLine}
-use Rattle.bt_lines.specs.calls.Line.{AreNumbered}
+use Rattle.bt_lines.specs.calls.Line.{AreNumbered, line_feeds}
 use Rattle.bt_lines.specs.calls.Names.{fault_value}
 use Rattle.bt_lines.specs.declared.fault.Input.{Input}
 use Rattle.bt_lines.specs.declared.reader.line_reader.LineReader.{LineReader}
-use Rattle.bt_bed.proofs.lemmas.read.good.ReadingLemmas.{left_numbered, LineCame, line_came, Follows, Going, gives_again, going_end, going_member, going_more, going_start, going_unkept, going_unread, going_wrong, given_first}
+use Rattle.bt_bed.proofs.lemmas.read.good.ReadingLemmas.{drops_pass, left_numbered, LineCame, line_came, Follows, Going, gives_again, going_end, going_member, going_more, going_start, going_unkept, going_unread, going_wrong, given_first}
 use Rattle.bt_bed.proofs.lemmas.Definitions.{line_said}
 use Rattle.bt_bed.proofs.lemmas.read.batch.RecordsLemmas.{placed_there, run_some, says_of_line}
 use Rattle.bt_bed.proofs.lemmas.read.good.SaidRuns.{LinesSay, good_said, order_behind, order_is_said, place_behind, run_behind, run_is_said, run_says, said_fewer, said_in_order, say_fewer, say_front, FirstOfRun, first_of_run, says_again}
@@ -17,7 +18,7 @@ use Rattle.bt_bed.specs.model.BedLine.{fault_at_line, record_of}
 use Rattle.bt_bed.specs.model.Good.{Format, Good, Member, or_else, bed_format, line_says, locus_at}
 use Rattle.bt_bed.specs.model.Sorted.{Locus, Sorting}
 use Rattle.bt_bed.specs.inside.OrderedLookahead.{HasNext, HoldsChrom, IsKnownLast, LineTaken, MakesLast, ahead_of, last_in, name_in, start_in, KeepsLast}
-use Rattle.bt_bed.specs.calls.Reading.{AreSaid, BeginsComing, MemberReader, Takes, good_behind, good_coming, members_from, state_behind, with_members, AnswersFault, Fills, IsLost}
+use Rattle.bt_bed.specs.calls.Reading.{AreSaid, BeginsComing, LinesPass, MemberReader, Takes, good_behind, good_coming, members_from, state_behind, with_members, AnswersFault, Fills, IsLost}
 use Rattle.bt_bed.specs.calls.Batch.{StandsFirst, left, left_after}
 use Rattle.bt_bed.specs.calls.Bed.{feature_lent, is_some_left, record_in, run_of}
 use Rattle.bt_bed.specs.declared.record.bed.BedRef.{BedRef}
@@ -158,14 +159,19 @@ module _ {S Q : Type 0} {device : Source S} {sorting : Sorting} {old : SortedRea
   good_then =
       let format = bed_format sorting in
       let state = last_in old.lookahead in
-      let drops : DropsLines (lines_left device.left old.reader) (length taken) (lines_left device.left reader) = subst (λ k. DropsLines (lines_left device.left old.reader) k (lines_left device.left reader)) (is.lines.feeds ∙ count_is) takes.left_is in
+      let drops : DropsLines (lines_left device.left old.reader) (length taken) (lines_left device.left reader) = subst (λ k. DropsLines (lines_left device.left old.reader) k (lines_left device.left reader)) (is.lines.feeds ∙ count_is) (taken_left device old.reader reader consumed.lines takes) in
       rw (ap (or_else (option_map fault_value old.fault)) takes.fault_is ∙ none_kept, none_kept, state_then, takes.input_is)
       (taken_good format (input_of old.reader) state (suc (lines_given old.reader)) taken (lines_left device.left old.reader) (lines_left device.left reader) (left_numbered device old.reader)
       (say_all format state (lines_buffered old.reader) taken (lines_left device.left old.reader) (is_prefix device.left old.reader) say_those) (still_unknown device.left old.reader reader takes.source_is) drops)
 
+  lines_then : LinesPass device.left old.reader reader
+  lines_then =
+      drops_pass (lines_left device.left old.reader) (lines_left device.left reader) (line_feeds (take consumed.lines.bytes (buffered_bytes old.reader))) (lines_given reader - lines_given old.reader)
+      (taken_left device old.reader reader consumed.lines takes) (omega (arith, takes.given, is.lines.given, is.lines.feeds))
+
   pub sorted_takes : Takes device (view_in sorting old) taken now
   unfolding view_with
-  sorted_takes = grind (arith, split, buffered_then, said_fewer, said_all, state_then, good_then, count_is)
+  sorted_takes = grind (arith, split, buffered_then, said_fewer, said_all, state_then, good_then, count_is, lines_then)
 
   known_then : ForSome (last_in lookahead) (λ place. IsTrue (sorting.knows place.chrom))
   known_then = known_last sorting (last_in old.lookahead) parts.0 parts.1 rest (last_in lookahead) (subst (AreSaid (bed_format sorting) (last_in old.lookahead)) (split ∙ ap (λ l. l ++ rest) parts.2) said_all) (state_then ∙ ap (state_behind (bed_format sorting) (last_in old.lookahead)) parts.2)

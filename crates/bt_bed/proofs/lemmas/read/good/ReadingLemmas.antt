@@ -1,7 +1,8 @@
 -- Lemmas on lines that a reader of records takes one after another.
 use Rattle.bt_lines.proofs.Std.{◌≡◌, ℕ, suc, ◌+◌, ◌-◌, ◌^◌, ◌<◌, ◌≤◌, List, [], ◌∷◌, ◌++◌, length, take, drop, Option, Some, None, sym, ap, ◌∙◌, arith, false, length-append, IfSome, option_map, take-append-add, drop-drop, true, Ok, Err, refl, inl, inr, ◌⊎◌, Result, add-zero}
 use Rattle.bt_lines.specs.declared.device.Source.{Ghosts as Source}
-use Rattle.bt_lines.proofs.lemmas.reader.lines.TakingLemmas.{is_prefix, near_next, not_told, next_below, given_below}
+use Rattle.bt_lines.proofs.lemmas.reader.lines.LeftLemmas.{is_prefix, made_left, none_comes, none_left, taken_left}
+use Rattle.bt_lines.proofs.lemmas.reader.lines.TakingLemmas.{near_next, not_told, next_below, given_below}
 use Rattle.bt_lines.proofs.lemmas.reader.lines.TextLemmas.{line_feeds-append, lines_are_numbered}
 use Rattle.bt_lines.specs.model.Fault.{FaultValue, read_failed}
 use Rattle.bt_lines.specs.calls.Faults.{no_memory}
@@ -34,6 +35,9 @@ front_of_both first second n m e = rw e (take-append-add first second m)
 pub drops_pass : (a b : Option (List TextLine)) (count k : ℕ) → DropsLines a count b → k ≡ count → IfSome a (λ all. b ≡ Some (drop k all))
 drops_pass a b count k d e = grind arith
 
+made_drops : (a b : Option (List TextLine)) (k : ℕ) → k ≡ 0 → DropsLines a 0 b → IfSome a (λ all. b ≡ Some (drop k all))
+made_drops a b k none d = grind arith
+
 first_by : (a b c : Option (List TextLine)) (line : TextLine) (more buffered : List TextLine) (count : ℕ) → DropsLines a 0 b → IfSome b (λ all. take (length buffered) all ≡ buffered) → buffered ≡ line ∷ more → DropsLines b count c → count ≡ 1
     → GivesFirst a line c
 first_by a b c line more buffered count s p is d one = grind arith
@@ -62,7 +66,7 @@ module _ {S : Type 0} (device : Source S) (old mid new : LineReader S) (makes : 
   module _ (line : TextLine) (more : List TextLine) (first : buffered_in mid ≡ line ∷ more) (number : line.number ≡ suc (lines_given mid)) (consumed : ConsumedLines) (are : TakenLines mid consumed 1) (takes : TakesLines device mid consumed new) where
     pub line_came : LineCame device old line new
     line_came = record {
-      first = first_by (lines_left device.left old) (lines_left device.left mid) (lines_left device.left new) line more (buffered_in mid) (line_feeds (take consumed.bytes (buffered_bytes mid))) makes.same (is_prefix device.left mid) first takes.left_is are.feeds;
+      first = first_by (lines_left device.left old) (lines_left device.left mid) (lines_left device.left new) line more (buffered_in mid) (line_feeds (take consumed.bytes (buffered_bytes mid))) (made_left device old mid makes) (is_prefix device.left mid) first (taken_left device mid new consumed takes) are.feeds;
       bytes = (makes.bytes.0 ++ [], hands_both device old mid new makes.bytes.0 [] makes.bytes.1 takes.hands);
       number = number ∙ ap suc makes.counted;
       counted = omega (arith, takes.given, are.given, makes.counted);
@@ -107,7 +111,7 @@ module _ {S : Type 0} (device : Source S) where
     pub came_made : MakesLine device now new → (IsKept device now → IsKept device new) → Came old new
     came_made makes kept = record {
       lines = pass_more (lines_left device.left old) (lines_left device.left now) (lines_left device.left new) (lines_given now - lines_given old) (lines_given new - lines_given now) (lines_given new - lines_given old) p.lines
-          (grind arith) (omega (arith, makes.counted, p.least));
+          (made_drops (lines_left device.left now) (lines_left device.left new) (lines_given new - lines_given now) (omega (arith, makes.counted)) (made_left device now new makes)) (omega (arith, makes.counted, p.least));
       least = omega (arith, makes.counted, p.least);
       bytes = (p.bytes.0 ++ makes.bytes.0, hands_both device old now new p.bytes.0 makes.bytes.0 p.bytes.1 makes.bytes.1);
       kept = λ was. kept (p.kept was);
@@ -290,7 +294,7 @@ module _ {S A State : Type 0} (device : Source S) where
         → now.format.says now.state line ≡ Ok (Some item) → new.buffered ≡ item ∷ items → new.fault ≡ line_fault new.below → Follows now new
         → GivesMember device old (record { line = line.number; item = item }) new
     going_member {now} {new} {line} {more} {item} g makes kept first number says buffered rest follows =
-        let good = remains_further (good_coming device.left old) (good_coming device.left now) (good_coming device.left new) g.good (grind (arith, good_is)) in
+        let good = remains_further (good_coming device.left old) (good_coming device.left now) (good_coming device.left new) g.good (grind (arith, good_is, (made_left device now.below new.below makes))) in
         let came = came_made device old.below now.below new.below g.passed makes kept in
         let there : IfSome (good_coming device.left new) (λ good. (rest : List (Member A)) × (good.members ≡ (record { line = line.number; item = item }) ∷ rest)) =
         rw (good_is new (rest ∙ makes.goes), follows.state, follows.format)
@@ -373,17 +377,17 @@ module _ {S A State : Type 0} (device : Source S) where
         → EndsMembers device old new
     going_end now new g gives ahead rest follows track =
         let none : IfSome (good_coming device.left now) (λ good. good ≡ ends_with None) =
-        rw (good_is now (g.rest ∙ gives.was_going)) (good_end now.format (input_of now.below) now.state (lines_left device.left now.below) gives.none_left) in
+        rw (good_is now (g.rest ∙ gives.was_going)) (good_end now.format (input_of now.below) now.state (lines_left device.left now.below) (none_left device now.below new.below gives)) in
         record {
           none_left = remains_if (good_coming device.left old) (good_coming device.left now) (λ good. good ≡ ends_with None) g.good none;
-          none_comes = rw (good_is new (rest ∙ gives.goes)) (good_end new.format (input_of new.below) new.state (lines_left device.left new.below) gives.none_comes);
+          none_comes = rw (good_is new (rest ∙ gives.goes)) (good_end new.format (input_of new.below) new.state (lines_left device.left new.below) (none_comes device now.below new.below gives));
           was_none = g.was_none;
           none_buffered = ahead;
           state = follows.state ∙ g.state;
           ends = gives.ends;
           told = gives.told;
           rises = omega (arith, g.passed.least, gives.counted);
-          lines = grind arith;
+          lines = grind (arith, (none_left device now.below new.below gives));
           again = grind arith;
           served = gives.served ∙ g.served;
           was_going = grind arith;

@@ -1,28 +1,20 @@
 -- Lemmas on making a line buffered, and on the step to the next line by it.
-use Rattle.bt_lines.proofs.Std.{append-nil, refl, IsErrAnd, err_from_is_err_and, common_steps, ◌≡◌, ℕ, ◌-◌, ◌<◌, Bool, true, false, List, [], ◌++◌, length, take, Option, Result, None, Some, Ok, Err, sym, ap, ◌∙◌, subst, append_assoc, length-append, arith, IfSome, ◌+◌, ◌≤◌, ◌∷◌, drop, eqb, take-add, take-append-drop, take_at, drop_at, length-take-le, length-drop, All-append, replicate, get_or, get_or-append_right, get_or-append_seam, get_or-replicate, get_or_append_left, length-replicate, drop_more, take-append-le, take-take}
+use Rattle.bt_lines.proofs.Std.{suc, append-nil, refl, IsErrAnd, err_from_is_err_and, common_steps, ◌≡◌, ℕ, ◌-◌, ◌<◌, Bool, true, false, List, [], ◌++◌, length, take, Option, Result, None, Some, Ok, Err, sym, ap, ◌∙◌, subst, append_assoc, length-append, arith, IfSome, ◌+◌, ◌≤◌, ◌∷◌, drop, eqb, take-add, take-append-drop, take_at, drop_at, length-take-le, length-drop, All-append, replicate, get_or, get_or-append_right, get_or-append_seam, get_or-replicate, get_or_append_left, length-replicate, drop_more, take-append-le, take-take}
 use Rattle.bt_lines.specs.declared.device.Source.{Ghosts as Source}
 use Rattle.bt_lines.proofs.lemmas.reader.block.ReadsLemmas.{hands_both, hands_none, hands_still, some_is}
 use Rattle.bt_lines.proofs.lemmas.reader.lines.BufferedLemmas.{CutsFirst}
-use Rattle.bt_lines.proofs.lemmas.reader.lines.StepLemmas.{none_told}
+use Rattle.bt_lines.proofs.lemmas.reader.lines.LeftLemmas.{made_coming}
 use Rattle.bt_lines.proofs.lemmas.reader.lines.TextLemmas.{line_feeds-append}
 use Rattle.bt_lines.specs.calls.Columns.{IsBefore, IsFirstOf, Lacks}
-use Rattle.bt_lines.specs.calls.Line.{line_seen}
+use Rattle.bt_lines.specs.calls.Line.{line_feeds, line_seen}
 use Rattle.bt_lines.specs.calls.Names.{fault_value}
 use Rattle.bt_lines.specs.model.Lines.{TextLine}
 use Rattle.bt_lines.specs.inside.ReadBuffer.{complete}
-use Rattle.bt_lines.specs.calls.Reader.{DropsLines, FillsItsRoom, FillsLines, GivesLine, MakesLine, NextLine, buffered_bytes, bytes_left, bytes_taken, end_told, fault_kept, feeds_taken, has_ended, held, input_of, lines_given, lines_left, source_of}
+use Rattle.bt_lines.specs.calls.Reader.{FillsItsRoom, FillsLines, GivesLine, MakesLine, NextLine, buffered_bytes, bytes_taken, end_told, fault_kept, feeds_taken, has_ended, held, input_of, lines_coming, lines_given, source_of}
 use Rattle.bt_lines.specs.declared.fault.Fault.{Fault}
 use Rattle.bt_lines.specs.declared.reader.line.Line.{Line}
 use Rattle.bt_lines.specs.declared.reader.line_reader.LineReader.{LineReader}
 use Rattle.bt_lines.specs.declared.reader.line_reader.State.TheVariants.{LastLine, Ended}
-
-same_lines : (lines : Option (List TextLine)) → DropsLines lines 0 lines
-same_lines lines = grind arith
-
--- no line is left once the end was reported and nothing is held
-none_left_told : {S : Type 0} (left : S → Option (List ℕ)) (reader : LineReader S) → end_told reader ≡ true → held reader ≡ [] → IfSome (lines_left left reader) (λ lines. lines ≡ [])
-unfolding bytes_left
-none_left_told left reader e none = grind (arith, none_told)
 
 module _ {S : Type 0} (device : Source S) where
   -- a line is buffered already
@@ -32,7 +24,6 @@ module _ {S : Type 0} (device : Source S) where
     answers = record {
       some = grind arith;
       bytes = ([], hands_none device reader, sym (append-nil (held reader)));
-      same = same_lines (lines_left device.left reader);
       counted = refl;
       ready = λ h. refl;
       served = refl;
@@ -71,15 +62,34 @@ module _ {S : Type 0} (device : Source S) where
   pub fills_after_last : (old new : LineReader S) → complete old.buffer ≡ [] → old.state ≡ LastLine → new.source ≡ old.source → new.buffer ≡ old.buffer → new.taken ≡ old.taken → new.lines ≡ old.lines
       → new.input ≡ old.input → new.state ≡ Ended → FillsLines device old (Ok false) new
   unfolding source_of input_of lines_given bytes_taken held fault_kept has_ended end_told feeds_taken buffered_bytes
-  fills_after_last old new none was same_source same_buffer same_taken same_lines same_input ended = grind (arith, none_left_told, (hands_still device old new same_source))
+  fills_after_last old new none was same_source same_buffer same_taken same_lines same_input ended = grind (arith, (hands_still device old new same_source))
 
   pub fills_again : (old : LineReader S) → complete old.buffer ≡ [] → old.state ≡ Ended → FillsLines device old (Ok false) old
   unfolding source_of lines_given bytes_taken held fault_kept has_ended end_told buffered_bytes
-  fills_again old none was = grind (arith, none_left_told, (hands_none device old))
+  fills_again old none was = grind (arith, (hands_none device old))
 
   -- a line that was made buffered, and then given
   gives_after : (old mid new : LineReader S) (line : TextLine) → MakesLine device old mid → GivesLine device mid line new → GivesLine device old line new
-  gives_after old mid new line made gives = grind (arith, append_assoc, line_feeds-append, length-append, (hands_both device old mid new made.bytes.0 gives.bytes.0))
+  gives_after old mid new line made gives =
+      let first = made.bytes.0 in
+      let second = gives.bytes.0 in
+      record {
+        bytes = (
+          first ++ second,
+          hands_both device old mid new first second made.bytes.1 gives.bytes.1,
+          sym (append_assoc (held old) first second) ∙ ap (λ l. l ++ second) (sym made.bytes.2) ∙ gives.bytes.2,
+          λ rest follows. ap (λ l. lines_coming l old) (append_assoc first second rest) ∙ made_coming device old mid made (second ++ rest) ∙ gives.bytes.3 rest follows,
+        );
+        ahead = gives.ahead;
+        ready = λ some. gives.ready (omega (arith, some, ap line_feeds made.bytes.2, line_feeds-append (held old) first)) ∙ made.ready some;
+        number = gives.number ∙ ap suc made.counted;
+        counted = gives.counted ∙ ap suc made.counted;
+        below = gives.below;
+        shrinks = omega (arith, gives.shrinks, made.bytes.1.counted, ap length made.bytes.2, length-append (held old) first, made.within);
+        served = gives.served ∙ made.served;
+        was_going = made.was_going;
+        goes = gives.goes;
+      }
 
   -- a call of `next` that met no line
   pub ends_by : (old new : LineReader S) (answer : Result Bool Fault) → answer ≡ Ok false → FillsLines device old answer new → NextLine device old (Ok None) new

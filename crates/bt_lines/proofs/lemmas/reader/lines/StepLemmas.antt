@@ -1,5 +1,5 @@
 -- Lemmas on a step of the reader of lines.
-use Rattle.bt_lines.proofs.Std.{common_steps, rules, ◌≡◌, ℕ, suc, ◌+◌, ◌-◌, ◌^◌, ◌<◌, ◌≤◌, ◌⊎◌, inl, inr, true, false, cond, List, [], ◌∷◌, ◌++◌, length, Option, None, Some, Ok, Err, take, refl, sym, ap, ◌∙◌, subst, append_assoc, append-nil, length-append, arith, option_map, is_some, IfSome, IsSome, take_all, false≢true, take-append-add, take-append_seam, Consumes, IsAtEnd, ends_with_byte, strip_last}
+use Rattle.bt_lines.proofs.Std.{common_steps, rules, ◌≡◌, ℕ, suc, ◌+◌, ◌-◌, ◌^◌, ◌<◌, ◌≤◌, ◌⊎◌, inl, inr, true, false, cond, List, [], ◌∷◌, ◌++◌, length, Option, None, Some, Ok, Err, take, refl, sym, ap, ◌∙◌, subst, append_assoc, append-nil, length-append, arith, option_map, is_some, IfSome, take_all, false≢true, take-append-add, take-append_seam, Consumes, IsAtEnd, ends_with_byte, strip_last}
 use Rattle.bt_lines.specs.declared.device.Source.{Ghosts as Source}
 use Rattle.bt_lines.proofs.lemmas.reader.block.BufferLemmas.{unread_fits, one_line}
 use Rattle.bt_lines.proofs.lemmas.reader.lines.TextLemmas.{lines_from-fed, lines_from-last, lines_from-nil, spelled-fed, line_feeds-append, line_feeds-none, line_feeds-fed, bytes_behind_first}
@@ -8,13 +8,13 @@ use Rattle.bt_lines.specs.model.Lines.{TextLine, fed_line, last_line, lines_from
 use Rattle.bt_lines.specs.model.Fault.{read_failed}
 use Rattle.bt_lines.specs.calls.Faults.{no_memory}
 use Rattle.bt_lines.specs.inside.Shape.{held_at, IsLast}
-use Rattle.bt_lines.proofs.lemmas.reader.block.ReadsLemmas.{hands_by, hands_on, hands_still, memory_failed, read_on, read_up_to}
-use Rattle.bt_lines.specs.calls.Device.{FailsAfter, ReadsOn}
-use Rattle.bt_lines.specs.inside.Spill.{Buffers, closed, uncounted}
+use Rattle.bt_lines.proofs.lemmas.reader.block.ReadsLemmas.{ends_told, ends_untold, hands_by, hands_on, hands_still, memory_failed, read_on, read_up_to}
+use Rattle.bt_lines.specs.calls.Device.{ReadsOn}
+use Rattle.bt_lines.specs.inside.Spill.{Buffers, closed}
 use Rattle.bt_lines.specs.calls.Output.{block_size}
-use Rattle.bt_lines.specs.calls.Line.{GivesFirst, NoLineFeed, line_feeds}
+use Rattle.bt_lines.specs.calls.Line.{NoLineFeed, line_feeds}
 use Rattle.bt_lines.specs.calls.Names.{fault_value}
-use Rattle.bt_lines.specs.calls.Reader.{AreRead, DropsLines, FillsLines, IsKept, IsSound, buffered_bytes, Hands, IsNear, FailsToRead, end_told, GivesLine, source_of, input_of, lines_given, bytes_taken, held, fault_kept, has_ended, bytes_left, feeds_taken, lines_left}
+use Rattle.bt_lines.specs.calls.Reader.{AreRead, EndsKnown, FillsLines, IsKept, IsSound, buffered_bytes, Hands, IsNear, FailsToRead, end_told, GivesLine, source_of, input_of, lines_given, bytes_taken, held, fault_kept, has_ended, bytes_left, feeds_taken, lines_coming, MayFollow}
 use Rattle.bt_lines.specs.declared.fault.Fault.{Fault}
 use Rattle.bt_lines.specs.declared.fault.Input.{Input}
 use Rattle.bt_lines.specs.declared.reader.spill.Stop.{Stop}
@@ -79,19 +79,21 @@ module _ {S : Type 0} (device : Source S) {old : LineReader S} (new : LineReader
   fed_feeds = grind (arith, line_feeds-append, line_feeds-fed)
 
   fed_hands : Hands device old bytes new
-  fed_hands = hands_on device old new bytes was.good is.good reads consumed (omega (arith, is.taken, was.taken, counted)) same (λ untold below. fed_feeds) (λ e. absurd (false≢true (sym was.untold ∙ e)))
+  fed_hands = hands_on device old new bytes was.good is.good reads consumed (omega (arith, is.taken, was.taken, counted)) same (λ untold below. fed_feeds) (λ e. absurd (false≢true (sym was.untold ∙ e))) (ends_untold device old new bytes was.untold is.untold)
 
   fed_held : held old ++ bytes ≡ spelled (fed_line (suc (lines_given old)) piece) ++ held new
   fed_held = grind (arith, (spelled-fed (suc (lines_given old)) piece), (append_assoc piece (10 ∷ []) (held new)))
 
-  fed_first : GivesFirst (lines_left device.left old) (fed_line (suc (lines_given old)) piece) (lines_left device.left new)
-  unfolding bytes_left
-  fed_first = grind (arith, append_assoc, lines_from-fed)
+  fed_lines : (rest : List ℕ) → MayFollow new rest → lines_coming (bytes ++ rest) old ≡ fed_line (suc (lines_given old)) piece ∷ lines_coming rest new
+  unfolding lines_coming
+  fed_lines rest follows =
+      ap (lines_from (suc (lines_given old))) (sym (append_assoc (held old) bytes rest) ∙ ap (λ l. l ++ rest) joined ∙ append_assoc piece (10 ∷ held new) rest)
+      ∙ lines_from-fed (suc (lines_given old)) piece (held new ++ rest) clear
+      ∙ ap (λ n. fed_line (suc (lines_given old)) piece ∷ lines_from (suc n) (held new ++ rest)) (sym more)
 
   pub gives_fed : GivesLine device old (fed_line (suc (lines_given old)) piece) new
   gives_fed = record {
-    first = fed_first;
-    bytes = (bytes, fed_hands, fed_held);
+    bytes = (bytes, fed_hands, fed_held, fed_lines);
     ahead = near;
     ready = ready;
     number = refl;
@@ -118,7 +120,7 @@ module _ {S : Type 0} (device : Source S) {old : LineReader S} (new : LineReader
   one = grind arith
 
   last_hands : Hands device old [] new
-  last_hands = hands_still device old new same_source (is.taken ∙ same_taken ∙ sym was.taken) same (λ e. absurd (false≢true (sym e ∙ is.is_told))) (λ e. is.is_told) (is.good ∙ sym was.good)
+  last_hands = hands_still device old new same_source (is.taken ∙ same_taken ∙ sym was.taken) same (λ e. absurd (false≢true (sym e ∙ is.is_told))) (is.is_told ∙ sym was.is_told) (is.good ∙ sym was.good)
 
   last_held : held old ++ [] ≡ spelled line ++ held new
   last_held = grind (arith, common_steps)
@@ -127,9 +129,26 @@ module _ {S : Type 0} (device : Source S) {old : LineReader S} (new : LineReader
   unfolding lines_given
   last_below = omega (arith, new.a_byte_each, new.counted)
 
+  last_lines : (rest : List ℕ) → MayFollow new rest → lines_coming ([] ++ rest) old ≡ line ∷ lines_coming rest new
+  unfolding lines_coming
+  last_lines rest follows =
+      let none : rest ≡ [] = follows is.is_told in
+      ap (lines_from (suc (lines_given old))) (ap (λ l. held old ++ l) none ∙ append-nil (held old) ∙ holds) ∙ lines_from-last (suc (lines_given old)) piece clear ∙ one
+      ∙ ap (λ l. line ∷ l) (sym (ap (lines_from (suc (lines_given new))) (ap (λ l. l ++ rest) gone ∙ none) ∙ lines_from-nil (suc (lines_given new))))
+
   pub gives_last : GivesLine device old line new
-  unfolding bytes_left
-  gives_last = grind (arith, lines_from-last, last_hands, last_held, last_below)
+  gives_last = record {
+    bytes = ([], last_hands, last_held, last_lines);
+    ahead = omega (arith, ap length gone);
+    ready = λ h. same_source;
+    number = refl;
+    counted = more;
+    below = last_below;
+    shrinks = omega (arith, ap length holds, ap length gone, some, is.taken, was.taken, same_taken);
+    served = ap device.has_failed same_source;
+    was_going = (was.good, ended);
+    goes = is.good;
+  }
 
   pub sound_last : IsKept device old → IsSound device new
   sound_last h = grind arith
@@ -145,23 +164,14 @@ module _ {S : Type 0} (device : Source S) (old new : LineReader S) (bytes : List
   unfolding feeds_taken
   made_feeds = grind (arith, line_feeds-append)
 
-  made_hands : Hands device old bytes new
+  made_hands : EndsKnown device old bytes new → Hands device old bytes new
   made_hands = hands_on device old new bytes was.good good reads consumed taken same (λ untold below. made_feeds) (λ e. absurd (false≢true (sym was.untold ∙ e)))
 
-  pub makes_line : end_told new ≡ false → FillsLines device old (Ok true) new
-  unfolding bytes_left
-  makes_line untold = grind (arith, append_assoc, made_hands)
-
-  last_same : end_told new ≡ true → IsAtEnd (device.left (source_of new)) → DropsLines (lines_left device.left old) 0 (lines_left device.left new)
-  unfolding bytes_left
-  last_same is_told none = search rules
-
-  pub makes_last : end_told new ≡ true → device.end_told (source_of new) ≡ true → IsAtEnd (device.left (source_of new)) → FillsLines device old (Ok true) new
-  makes_last is_told told none = record {
+  makes : EndsKnown device old bytes new → (end_told new ≡ true → (device.end_told (source_of new) ≡ true) × IsAtEnd (device.left (source_of new))) → FillsLines device old (Ok true) new
+  makes ends told = record {
     answers = record {
       some = some;
-      bytes = (bytes, made_hands, holds);
-      same = last_same is_told none;
+      bytes = (bytes, made_hands ends, holds);
       counted = same_lines;
       ready = ready;
       served = served;
@@ -170,8 +180,14 @@ module _ {S : Type 0} (device : Source S) (old new : LineReader S) (bytes : List
       within = within;
     };
     unread = λ h. absurd (omega (arith, h, ap length empty));
-    kept = λ h. record { end = λ e. (told, none); within = λ e. within };
+    kept = λ h. record { end = told; within = λ e. within };
   }
+
+  pub makes_line : end_told new ≡ false → FillsLines device old (Ok true) new
+  makes_line untold = makes (ends_untold device old new bytes was.untold untold) (λ told. absurd (false≢true (sym untold ∙ told)))
+
+  pub makes_last : end_told new ≡ true → device.end_told (source_of new) ≡ true → IsAtEnd (device.left (source_of new)) → FillsLines device old (Ok true) new
+  makes_last is_told told none = makes (ends_told device old new bytes was.untold consumed none) (λ e. (told, none))
 
 -- ---- the end of the text
 
@@ -180,11 +196,24 @@ module _ {S : Type 0} (device : Source S) (old new : LineReader S) (bytes : List
     (counted : new.taken ≡ old.taken + length bytes) (nothing : held old ++ bytes ≡ []) (gone : held new ≡ [])
     (served : device.has_failed (source_of new) ≡ device.has_failed (source_of old)) (told : device.end_told (source_of new) ≡ true) (none : IsAtEnd (device.left (source_of new))) (ended : has_ended new ≡ true) (empty : buffered_bytes old ≡ []) where
   end_hands : Hands device old bytes new
-  end_hands = hands_on device old new bytes was.good is.good reads consumed (omega (arith, is.taken, was.taken, counted)) same (λ untold below. absurd (false≢true (sym untold ∙ is.is_told))) (λ e. is.is_told)
+  end_hands = hands_on device old new bytes was.good is.good reads consumed (omega (arith, is.taken, was.taken, counted)) same (λ untold below. absurd (false≢true (sym untold ∙ is.is_told))) (λ e. is.is_told) (ends_told device old new bytes was.untold consumed none)
 
   pub fills_end : FillsLines device old (Ok false) new
-  unfolding bytes_left
-  fills_end = grind (arith, append-nil, lines_from-nil, end_hands)
+  fills_end = record {
+    answers = record {
+      nothing_held = gone;
+      counted = same_lines;
+      bytes = (bytes, end_hands, nothing);
+      served = served;
+      was_going = was.good;
+      goes = is.good;
+      ends = ended;
+      told = is.is_told;
+      again = λ e. absurd (false≢true (sym was.open_ended ∙ e));
+    };
+    unread = λ h. absurd (omega (arith, h, ap length empty));
+    kept = λ h. record { end = λ e. (told, none); within = λ e. rw is.taken new.counted };
+  }
 
 -- ---- a line that couldn't be given
 
@@ -219,7 +248,7 @@ module _ {S : Type 0} {device : Source S} {old new : LineReader S} {bytes text b
   cut_feeds below = omega (arith, line.same_lines, line.holds below)
 
   cut_hands : Hands device old bytes new
-  cut_hands = hands_by device old new bytes line.was.good line.reads line.consumed line.counted line.same (λ untold. cut_feeds) (λ e. absurd (false≢true (sym line.was.untold ∙ e)))
+  cut_hands = hands_by device old new bytes line.was.good line.reads line.consumed line.counted line.same (λ untold. cut_feeds) (λ e. absurd (false≢true (sym line.was.untold ∙ e))) (ends_untold device old new bytes line.was.untold line.untold)
 
   cut_near : IsNear device.left old new
   unfolding bytes_left

@@ -1,11 +1,11 @@
 -- Lemmas on lines that are taken of those that are buffered.
-use Rattle.bt_lines.proofs.Std.{common_steps, ◌≡◌, ◌⊎◌, inl, inr, ℕ, suc, ◌+◌, ◌-◌, ◌^◌, ◌<◌, ◌≤◌, Bool, true, false, nat_eq, List, [], ◌∷◌, ◌++◌, length, take, drop, refl, sym, ap, ◌∙◌, Option, None, Some, append_assoc, length-append, arith, IfSome, option_map, drop_all, drop_at, take_all, take_at, length-take, take-append-drop, subst, IsSome}
+use Rattle.bt_lines.proofs.Std.{common_steps, ◌≡◌, ◌⊎◌, inl, inr, ℕ, suc, ◌+◌, ◌-◌, ◌^◌, ◌<◌, ◌≤◌, Bool, true, false, nat_eq, List, [], ◌∷◌, ◌++◌, length, take, drop, refl, sym, ap, ◌∙◌, Option, None, Some, append_assoc, length-append, arith, IfSome, option_map, drop_all, drop_at, take_all, take_at, length-take, take-append-drop, append-nil}
 use Rattle.bt_lines.specs.declared.device.Source.{Ghosts as Source}
 use Rattle.bt_lines.proofs.lemmas.reader.block.BufferLemmas.{fed_clear, fed_drop, fed_last, fed_none, unread_fits}
 use Rattle.bt_lines.proofs.lemmas.reader.block.ReadsLemmas.{hands_still}
 use Rattle.bt_lines.proofs.lemmas.reader.lines.BufferedLemmas.{are_fed, lines_fit}
 use Rattle.bt_lines.proofs.lemmas.reader.lines.TextLemmas.{lines_from-fed, lines_from-last, lines_from-nil, by_lines, bytes_in-drop, bytes_in-lines, lines_are_numbered, whole_lines_from-last, line_feeds-append, line_feeds-fed, whole_count, whole_front}
-use Rattle.bt_lines.specs.calls.Reader.{buffered_lines, DropsLines, Hands, IsKept, IsPrefix, TakesLines, bytes_taken, buffered_in, fault_kept, feeds_taken, has_ended, input_of, buffered_bytes, bytes_left, is_open, end_told, held, left_at, lines_given, lines_left, source_of, IsSound}
+use Rattle.bt_lines.specs.calls.Reader.{buffered_lines, Hands, IsKept, IsPrefix, MayFollow, TakesLines, lines_coming, bytes_taken, buffered_in, fault_kept, feeds_taken, has_ended, input_of, buffered_bytes, bytes_left, is_open, end_told, held, left_at, lines_given, lines_left, source_of, IsSound}
 use Rattle.bt_lines.specs.calls.Line.{NoLineFeed, GivesFirst, line_feeds}
 use Rattle.bt_lines.specs.model.Lines.{TextLine, bytes_in, last_line, lines_from, whole_lines_from}
 use Rattle.bt_lines.specs.calls.Output.{block_size}
@@ -65,13 +65,10 @@ drop_fed more = by_lines (λ n bytes. is_fed bytes ≡ true → drop (line_feeds
 parts_of : (lines unread more : List ℕ) (n : ℕ) → (lines ++ unread) ++ more ≡ take n lines ++ ((drop n lines ++ unread) ++ more)
 parts_of lines unread more n = grind (arith, (take-append-drop n lines), (append_assoc (take n lines) (drop n lines) unread), (append_assoc (take n lines) (drop n lines ++ unread) more))
 
-left_drops : (told : Bool) (number : ℕ) (lines unread : List ℕ) (n : ℕ) (left : Option (List ℕ)) → is_fed (take n lines) ≡ true
-    → DropsLines (option_map (lines_from number) (left_at told (lines ++ unread) left)) (line_feeds (take n lines))
-    (option_map (lines_from (number + line_feeds (take n lines))) (left_at told (drop n lines ++ unread) left))
-left_drops true number lines unread n None fed = tt
-left_drops false number lines unread n None fed = tt
-left_drops false number lines unread n (Some rest) fed = grind (arith, (parts_of lines unread rest n), (drop_fed ((drop n lines ++ unread) ++ rest) number (take n lines) fed))
-left_drops true number lines unread n (Some rest) fed = grind (arith, (take-append-drop n lines), (append_assoc (take n lines) (drop n lines) unread), (drop_fed (drop n lines ++ unread) number (take n lines) fed))
+rest_drops : (number : ℕ) (lines unread : List ℕ) (n : ℕ) (rest : List ℕ) → is_fed (take n lines) ≡ true
+    → lines_from (number + line_feeds (take n lines)) ((drop n lines ++ unread) ++ rest) ≡ drop (line_feeds (take n lines)) (lines_from number ((lines ++ unread) ++ rest))
+rest_drops number lines unread n rest fed =
+    sym (ap (λ l. drop (line_feeds (take n lines)) (lines_from number l)) (parts_of lines unread rest n) ∙ drop_fed ((drop n lines ++ unread) ++ rest) number (take n lines) fed)
 
 held_plain : (b : Bool) (lines unread : List ℕ) → b ≡ false → held_at b lines unread ≡ lines ++ unread
 held_plain b lines unread e = rw e refl
@@ -97,9 +94,9 @@ take_whole xs = take_all (length xs) xs (omega arith)
 first_whole : (number : ℕ) (lines more : List ℕ) → take (length (whole_lines_from number lines)) (lines_from number (lines ++ more)) ≡ whole_lines_from number lines
 first_whole number lines more = ap (λ k. take k (lines_from number (lines ++ more))) (whole_count number lines) ∙ whole_front number lines more
 
-pub is_prefix : {S : Type 0} (left : S → Option (List ℕ)) (reader : LineReader S) → IsPrefix left reader
-unfolding bytes_left held end_told lines_given source_of buffered_bytes is_open
-is_prefix left reader = grind (arith, take_whole, first_whole, append_assoc)
+pub prefix_of : {S : Type 0} (reader : LineReader S) → IsPrefix reader
+unfolding lines_coming held end_told lines_given buffered_bytes is_open
+prefix_of reader rest follows = grind (arith, take_whole, first_whole, append_assoc, append-nil)
 
 -- ---- an open line
 
@@ -155,16 +152,29 @@ module _ {S : Type 0} (device : Source S) (old new : LineReader S) (n : ℕ) (ta
   closed_new : open_at old.state ≡ false → held new ≡ drop n (complete old.buffer) ++ unread old.buffer
   closed_new plain = closed_held new (still false plain) ∙ ap (λ l. l ++ unread new.buffer) takes.lines ∙ ap (λ l. drop n (complete old.buffer) ++ l) takes.behind
 
-  closed_taken : open_at old.state ≡ false → DropsLines (lines_left device.left old) (line_feeds (take n (complete old.buffer))) (lines_left device.left new)
-  unfolding bytes_left
-  closed_taken plain = grind (arith, told_taken, sources, closed_held, numbers, left_drops)
+  closed_taken : open_at old.state ≡ false → (rest : List ℕ) → lines_coming rest new ≡ drop (line_feeds (take n (complete old.buffer))) (lines_coming rest old)
+  unfolding lines_coming
+  closed_taken plain rest =
+      ap (λ l. lines_from (suc (lines_given new)) (l ++ rest)) (closed_new plain) ∙ ap (λ m. lines_from m ((drop n (complete old.buffer) ++ unread old.buffer) ++ rest)) numbers
+      ∙ rest_drops (suc (lines_given old)) (complete old.buffer) (unread old.buffer) n rest takes.fed
+      ∙ ap (λ l. drop (line_feeds (take n (complete old.buffer))) (lines_from (suc (lines_given old)) (l ++ rest))) (sym (closed_held old plain))
 
-  open_taken : open_at old.state ≡ true → DropsLines (lines_left device.left old) (line_feeds (take n (complete old.buffer))) (lines_left device.left new)
-  unfolding bytes_left
-  open_taken opened = grind (arith, open_held, are_fed, open_is_told, sources, numbers, whole, drop_all, few_lines, front_feeds, fed_last, lines_from-nil)
+  open_lines : open_at old.state ≡ true → lines_from (suc (lines_given new)) (held new) ≡ drop (line_feeds (take n (complete old.buffer))) (lines_from (suc (lines_given old)) (held old))
+  open_lines opened = grind (arith, open_held, are_fed, numbers, still, whole, drop_all, few_lines, front_feeds, fed_last, lines_from-nil)
 
-  all_taken : DropsLines (lines_left device.left old) (line_feeds (take n (complete old.buffer))) (lines_left device.left new)
-  all_taken = grind (arith, open_taken, closed_taken)
+  open_taken : open_at old.state ≡ true → (rest : List ℕ) → MayFollow new rest → lines_coming rest new ≡ drop (line_feeds (take n (complete old.buffer))) (lines_coming rest old)
+  unfolding lines_coming
+  open_taken opened rest follows =
+      let none : rest ≡ [] = follows (told_taken ∙ open_is_told old opened) in
+      ap (lines_from (suc (lines_given new))) (ap (λ l. held new ++ l) none ∙ append-nil (held new)) ∙ open_lines opened
+      ∙ ap (λ l. drop (line_feeds (take n (complete old.buffer))) (lines_from (suc (lines_given old)) l)) (sym (ap (λ l. held old ++ l) none ∙ append-nil (held old)))
+
+  taken_by : (b : Bool) → open_at old.state ≡ b → (rest : List ℕ) → MayFollow new rest → lines_coming rest new ≡ drop (line_feeds (take n (complete old.buffer))) (lines_coming rest old)
+  taken_by true opened rest follows = open_taken opened rest follows
+  taken_by false plain rest follows = closed_taken plain rest
+
+  all_taken : (rest : List ℕ) → MayFollow new rest → lines_coming rest new ≡ drop (line_feeds (take n (complete old.buffer))) (lines_coming rest old)
+  all_taken = taken_by (open_at old.state) refl
 
   fault_taken : fault_kept new ≡ fault_kept old
   unfolding fault_kept
@@ -202,7 +212,7 @@ module _ {S : Type 0} (device : Source S) (old new : LineReader S) (n : ℕ) (ta
 
   -- nothing is handed over
   hands_taken : Hands device old [] new
-  hands_taken = hands_still device old new sources same_bytes inputs feeds_kept (λ e. told_taken ∙ e) fault_taken
+  hands_taken = hands_still device old new sources same_bytes inputs feeds_kept told_taken fault_taken
 
   -- and so much less is held
   held_taken : length (held new) + line_feeds (take n (complete old.buffer)) ≤ length (held old)

@@ -20,10 +20,11 @@ use Rattle.bt_tool.specs.inside.Feed.{HasTaken, ComeFirst, IsReadFor, PassesMemb
 use Rattle.bt_tool.proofs.lemmas.running.members.MemberLemmas.{IsFilled, IsOver, IsStopped, members_low}
 use Rattle.bt_tool.proofs.lemmas.running.members.PassedLemmas.{consumed_of}
 use Rattle.bt_lines.proofs.lemmas.reader.block.ReadsLemmas.{hands_both}
-use Rattle.bt_lines.proofs.lemmas.reader.lines.TakingLemmas.{sound_near, is_prefix, near_next}
+use Rattle.bt_lines.proofs.lemmas.reader.lines.LeftLemmas.{is_prefix, made_left, taken_left}
+use Rattle.bt_lines.proofs.lemmas.reader.lines.TakingLemmas.{sound_near, near_next}
 use Rattle.bt_lines.specs.model.Fault.{FaultValue}
 use Rattle.bt_lines.specs.model.Lines.{TextLine}
-use Rattle.bt_lines.specs.calls.Line.{AreNumbered}
+use Rattle.bt_lines.specs.calls.Line.{AreNumbered, line_feeds}
 use Rattle.bt_lines.specs.calls.Output.{block_size}
 use Rattle.bt_lines.specs.declared.reader.buffered_lines.ConsumedLines.{ConsumedLines}
 use Rattle.bt_lines.specs.declared.fault.Kind.{Kind}
@@ -136,7 +137,7 @@ module _ {S : Type 0} (device : Source S) (full : Bool) where
   module _ (old : MemberReader S SequenceLine Reached) (past : List (Member SequenceLine)) (reached : Reached) (lines new : LineReader S) (g : PassesMembers device old past (line_members full reached lines)) where
     pub passes_made : MakesLine device lines new → (IsKept device lines → IsKept device new) → PassesMembers device old past (line_members full reached new)
     passes_made makes kept =
-        let lines_now = lines_same (lines_left device.left old.below) (lines_left device.left lines) (lines_left device.left new) (lines_given lines) (lines_given new) makes.counted g.lines makes.same in
+        let lines_now = lines_same (lines_left device.left old.below) (lines_left device.left lines) (lines_left device.left new) (lines_given lines) (lines_given new) makes.counted g.lines (made_left device lines new makes) in
         record {
           format = g.format;
           bytes = (g.bytes.0 ++ makes.bytes.0, hands_both device old.below lines new g.bytes.0 makes.bytes.0 g.bytes.1 makes.bytes.1);
@@ -144,7 +145,7 @@ module _ {S : Type 0} (device : Source S) (full : Bool) where
           state = g.state;
           come = subst (ComeFirst (good_coming device.left old) past) (sym (good_lines reached [] new makes.goes))
               (come_same (good_coming device.left old) (good_from (sequence_format full) (input_of lines) reached) (good_from (sequence_format full) (input_of new) reached) (lines_left device.left lines) (lines_left device.left new) past
-              (λ l. ap (λ input. good_from (sequence_format full) input reached l) (sym makes.bytes.1.same_input)) makes.same
+              (λ l. ap (λ input. good_from (sequence_format full) input reached l) (sym makes.bytes.1.same_input)) (made_left device lines new makes)
               (subst (ComeFirst (good_coming device.left old) past) (good_lines reached [] lines g.clear) g.come));
           behind = up_to (lines_given lines) (lines_given new) past (omega (arith, makes.counted)) g.behind;
           lines = lines_now;
@@ -186,13 +187,16 @@ module _ {S : Type 0} (device : Source S) (full : Bool) where
         say_by None e = tt
         say_by (Some all) e = say_front (sequence_format full) reached (buffered_in lines) all items e (subst (λ l. LinesSay (sequence_format full) reached l items) (sym parts) (say_lines full reached texts more items say))
 
+    lines_gone : DropsLines (lines_left device.left lines) (line_feeds (take consumed.bytes (buffered_bytes lines))) (lines_left device.left new)
+    lines_gone = taken_left device lines new consumed takes
+
     -- no more than those
     module _ (all : count ≡ length items) where
       good_then : option_map (with_members (members_from (suc (lines_given lines)) items)) (good_coming device.left (line_members full reached_then new)) ≡ good_coming device.left (known_members reached items lines)
-      good_then = grind (arith, good_lines, left_numbered, say_known, still_unknown, good_said)
+      good_then = grind (arith, good_lines, left_numbered, say_known, still_unknown, good_said, lines_gone)
 
       pub has_taken : HasTaken device (known_members reached items lines) items (line_members full reached_then new)
-      has_taken = grind (arith, append-nil, say_said, good_lines, left_numbered, say_known, still_unknown, good_said)
+      has_taken = grind (arith, append-nil, say_said, good_lines, left_numbered, say_known, still_unknown, good_said, lines_gone)
 
       -- they were known to come
       pub passes_known : (old : MemberReader S SequenceLine Reached) (past : List (Member SequenceLine)) → PassesMembers device old past (line_members full reached lines) → PassesMembers device old past (known_members reached items lines)
@@ -268,7 +272,7 @@ module _ {S : Type 0} (device : Source S) (full : Bool) where
     lines_then : IfSome (lines_left device.left old.below) (λ all. lines_left device.left new ≡ Some (drop (lines_given new) all))
     lines_then =
         lines_on (lines_left device.left old.below) (lines_left device.left lines) (lines_left device.left new) (lines_given lines) (lines_given new) (omega (arith, given_is)) g.lines
-        (drops_pass (lines_left device.left lines) (lines_left device.left new) _ (lines_given new - lines_given lines) takes.left_is (omega (arith, takes.given, are.given, are.feeds)))
+        (drops_pass (lines_left device.left lines) (lines_left device.left new) _ (lines_given new - lines_given lines) (taken_left device lines new consumed takes) (omega (arith, takes.given, are.given, are.feeds)))
 
     held_block : length (held new) ≤ block_size
     held_block = takes.near (some_bytes consumed.bytes (buffered_bytes lines) (omega (arith, are.feeds, length-append before (line ∷ []))))

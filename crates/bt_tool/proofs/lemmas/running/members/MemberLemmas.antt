@@ -12,6 +12,7 @@ use Rattle.bt_lines.specs.declared.fault.Kind.{Kind}
 use Rattle.bt_lines.specs.declared.reader.line_reader.LineReader.{LineReader}
 use Rattle.bt_lines.specs.inside.ReadBuffer.{unread}
 use Rattle.bt_lines.proofs.lemmas.reader.block.ReadsLemmas.{hands_none, hands_both}
+use Rattle.bt_lines.proofs.lemmas.reader.lines.LeftLemmas.{given_left}
 use Rattle.bt_lines.proofs.lemmas.reader.lines.TakingLemmas.{sound_near}
 use Rattle.bt_lines.proofs.lemmas.reader.lines.TextLemmas.{bytes_in-append}
 use Rattle.bt_tool.specs.inside.Feed.{IsFresh, AreAll, ComeFirst, HasFaultBehind, HasTaken, IsReadFor, LacksMemory, PassesMembers, StopsAfter, member_items}
@@ -348,7 +349,7 @@ read_alone {S} {A} {State} {device} {old} {past} {given} {now} read = record {
 
 -- a line that was given came
 pub came : {S : Type 0} (device : Source S) (old new : LineReader S) (line : TextLine) → GivesLine device old line new → LineCame device old line new
-came device old new line gives = grind arith
+came device old new line gives = grind (arith, (given_left device old new line gives))
 
 module _ {A State : Type 0} (format : Format A State) (input : Input) (state : State) where
   none_comes : (old : Option (Good A)) (a b : Option (List TextLine)) (line : TextLine) (past : List (Member A)) → ComeFirst old past (option_map (good_from format input state) a) → GivesFirst a line b
@@ -364,7 +365,7 @@ module _ {A State : Type 0} (format : Format A State) (input : Input) (state : S
 module _ {S A State : Type 0} {device : Source S} {old now : MemberReader S A State} {past : List (Member A)} (g : PassesMembers device old past now) (new : MemberReader S A State) {line : TextLine}
     (gives : GivesLine device now.below line new.below) (kept : IsKept device now.below → IsKept device new.below) (format : new.format ≡ now.format) (none : new.buffered ≡ []) (going : new.fault ≡ None) where
   lines_pass : LinesPass device.left now.below new.below
-  lines_pass = grind arith
+  lines_pass = grind (arith, (given_left device now.below new.below line gives))
 
   rises : lines_given now.below ≤ lines_given new.below
   rises = omega (arith, gives.counted)
@@ -405,7 +406,7 @@ module _ {S A State : Type 0} {device : Source S} {old now : MemberReader S A St
 
   -- the line says no member
   pub passes_none : now.format.says now.state line ≡ Ok None → new.state ≡ now.state → PassesMembers device old past new
-  passes_none says same = grind (arith, passes_with, coming_is, none_comes, coming_before)
+  passes_none says same = grind (arith, passes_with, coming_is, none_comes, coming_before, (given_left device now.below new.below line gives))
 
   -- the line says this one
   module _ {item : A} (says : now.format.says now.state line ≡ Ok (Some item)) (after : new.state ≡ now.format.after now.state item) where
@@ -423,7 +424,7 @@ module _ {S A State : Type 0} {device : Source S} {old now : MemberReader S A St
         (after ∙ ap (λ (f : Format A State). f.after now.state item) g.format ∙ ap (λ (s : State). old.format.after s item) g.state
         ∙ sym (state_more old.format old.state (member_items past) (item ∷ [])) ∙ ap (state_behind old.format old.state) (sym items))
         (rw (coming_after, after) (come_some now.format (input_of now.below) now.state (good_coming device.left old) (lines_left device.left now.below) (lines_left device.left new.below) line item past
-        (subst (ComeFirst (good_coming device.left old) past) coming_before g.come) gives.first says))
+        (subst (ComeFirst (good_coming device.left old) past) coming_before g.come) (given_left device now.below new.below line gives) says))
         (All-push (λ m. m.line ≤ lines_given new.below) past member (up_to (lines_given now.below) (lines_given new.below) past rises g.behind) (omega (arith, gives.number, gives.counted)))
 
     -- how far the input was read beside those before it

@@ -1,5 +1,5 @@
 use Rattle.bt_lines.proofs.lemmas.reader.lines.BufferedLemmas.{begins_lines, are_fed}
-use Rattle.bt_lines.proofs.lemmas.reader.lines.TakingLemmas.{is_prefix}
+use Rattle.bt_lines.proofs.lemmas.reader.lines.TakingLemmas.{prefix_of}
 use Rattle.bt_lines.specs.calls.Reader.{buffered_bytes, is_open, lines_given}
 use Rattle.bt_lines.proofs.reader.line_reader.LineReader.buffered.Goals as goal
 
@@ -15,4 +15,4 @@ unfolding buffered_bytes lines_given is_open
 returns-clause-lines g c = rw (← c.lines.ensures, ← c.is_open.ensures) (begins_lines c.new.result _ _ _ c.new.ensures.begins)
 
 pub returns-clause-prefix : goal.returns-clause-prefix
-returns-clause-prefix g c = is_prefix g.S.Source.left c.args.self.now
+returns-clause-prefix g c = prefix_of c.args.self.now
