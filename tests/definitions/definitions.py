@@ -152,9 +152,8 @@ def put_level_scan(path):
 def put_scan(path):
     """Has a definition by stretches name the scan for the one list that there is."""
     text = path.read_text()
-    text = re.sub(r"^abbrev pub the_stretches .*?\n\n", "", text, flags=re.S | re.M)
     text = re.sub(r"^use [^\n]*\{OneSpanList\}\n", "", text, flags=re.M)
-    text = re.sub(r"\(the_stretches (\w+|\([^()]*\)) ([\w.]+)\)\.spans", r"stretches_from \1 0 \2", text)
+    text = re.sub(r"let one : [^\n]*= one_span_list (\w+|\([^()]*\)) ([\w.]+) in\n    one\.spans", r"stretches_from \1 0 \2", text)
     path.write_text(text.replace("proofs.StretchScans.{one_span_list}", "specs.bt_bed.Stretches.{stretches_from}"))
 
 

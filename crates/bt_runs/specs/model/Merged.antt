@@ -12,11 +12,10 @@ use Rattle.std.specs.List.{list_any, take_while}
 
 -- the one list of intervals of the positions below a length that pass a test: its type says which list it is, so how it is
 -- found needn't be read
-abbrev pub the_stretches : (test : ℕ → Bool) (size : ℕ) → OneSpanList test size
-the_stretches = one_span_list
-
 abbrev pub stretches_of : (ℕ → Bool) → ℕ → List Span
-stretches_of test size = (the_stretches test size).spans
+stretches_of test size =
+    let one : OneSpanList test size = one_span_list test size in
+    one.spans
 
 -- What `bedtools merge` gives: overlapping and touching features become one, and with -d also those
 -- up to a gap apart (bedtools manual, merge).

@@ -8,10 +8,8 @@ use Rattle.bt_seq.specs.declared.sam.cigar.Operation.{Operation}
 use Rattle.std.specs.Prelude.{option_and_then}
 use Rattle.bt_lines.proofs.lemmas.numbers.NumberLemmas.{value_of_digits, value_of_empty, value_of_large, value_of_other}
 use Rattle.bt_lines.specs.model.Lines.{value_of, pieces}
-use Rattle.bt_seq.specs.model.Masked.{masked_byte, Block, Owned, block_decides, block_with, blocks_by, items_if_last, left_by, own_records, owned, owned_from}
-use Rattle.bt_seq.specs.inside.Window.{extent_has, masked_in}
+use Rattle.bt_seq.specs.model.Masked.{masked_byte, masked_from, record_covers, Block, Owned, block_decides, block_with, blocks_by, items_if_last, left_by, own_records, owned, owned_from}
 use Rattle.bt_seq.specs.declared.mask.mask_how.MaskHow.{MaskHow}
-use Rattle.bt_seq.specs.declared.mask.extent.Extent.{Extent}
 use Rattle.bt_lines.specs.declared.fault.Kind.{Kind}
 use Rattle.bt_seq.proofs.lemmas.definitions.KnowsLemmas.{is_last, leave}
 
@@ -232,36 +230,36 @@ single_match digits value few e = grind (arith, first_operation_is, digits_no_le
 pub single_span_is : (text : List ℕ) (end : ℕ) (number : Option ℕ) → end ≤ 12 → length text ≡ end + 1 → get_or text end 0 ≡ 77 → number ≡ value_of (take end text) → IfSome number (λ span. span_with 0 (operations_in text) ≡ Some span)
 single_span_is text end number few size last e = grind (arith, take_all, take_more, single_match, length-take)
 
--- Lemmas on masked extents.
+-- Lemmas on records that mask bases.
 
--- without an extent nothing changes
-pub none_masked : (how : MaskHow) (position : ℕ) (bases : List ℕ) → bases ≡ masked_in how [] position bases
+-- without a record nothing changes
+pub none_masked : (how : MaskHow) (position : ℕ) (bases : List ℕ) → bases ≡ masked_from how [] position bases
 none_masked how position [] = refl
 none_masked how position (base ∷ bases) = ap (λ bs. base ∷ bs) (none_masked how (suc position) bases)
 
--- extents mask one after another
-pub one_behind : (how : MaskHow) (extents : List Extent) (s : Extent) (position : ℕ) (bases : List ℕ) → masked_in how (extents ++ s ∷ []) position bases ≡ masked_in how (s ∷ []) position (masked_in how extents position bases)
-one_behind how extents s position [] = refl
-one_behind how extents s position (base ∷ bases) = grind (arith, list_any-append, one_behind how extents s (suc position) bases)
+-- records mask one after another
+pub one_behind : (how : MaskHow) (rs : List Feature) (r : Feature) (position : ℕ) (bases : List ℕ) → masked_from how (rs ++ r ∷ []) position bases ≡ masked_from how (r ∷ []) position (masked_from how rs position bases)
+one_behind how rs r position [] = refl
+one_behind how rs r position (base ∷ bases) = grind (arith, list_any-append, one_behind how rs r (suc position) bases)
 
-module _ (how : MaskHow) (s : Extent) where
-  outside : (position base : ℕ) (bases : List ℕ) → extent_has position s ≡ false → base ∷ masked_in how (s ∷ []) (suc position) bases ≡ masked_in how (s ∷ []) position (base ∷ bases)
-  outside position base bases e = sym (ap (λ b. cond (b || false) (masked_byte how base) base ∷ masked_in how (s ∷ []) (suc position) bases) e)
+module _ (how : MaskHow) (r : Feature) where
+  outside : (position base : ℕ) (bases : List ℕ) → record_covers position r ≡ false → base ∷ masked_from how (r ∷ []) (suc position) bases ≡ masked_from how (r ∷ []) position (base ∷ bases)
+  outside position base bases e = sym (ap (λ b. cond (b || false) (masked_byte how base) base ∷ masked_from how (r ∷ []) (suc position) bases) e)
 
-  inside : (position base : ℕ) (bases : List ℕ) → extent_has position s ≡ true → masked_byte how base ∷ masked_in how (s ∷ []) (suc position) bases ≡ masked_in how (s ∷ []) position (base ∷ bases)
-  inside position base bases e = sym (ap (λ b. cond (b || false) (masked_byte how base) base ∷ masked_in how (s ∷ []) (suc position) bases) e)
+  inside : (position base : ℕ) (bases : List ℕ) → record_covers position r ≡ true → masked_byte how base ∷ masked_from how (r ∷ []) (suc position) bases ≡ masked_from how (r ∷ []) position (base ∷ bases)
+  inside position base bases e = sym (ap (λ b. cond (b || false) (masked_byte how base) base ∷ masked_from how (r ∷ []) (suc position) bases) e)
 
-  -- from a position in or after the extent on
-  from_inside : (bases : List ℕ) (position to : ℕ) → s.start ≤ position → to ≡ min (s.stop - position) (length bases)
-      → map (masked_byte how) (take to bases) ++ drop to bases ≡ masked_in how (s ∷ []) position bases
+  -- from a position in or after the record on
+  from_inside : (bases : List ℕ) (position to : ℕ) → r.start ≤ position → to ≡ min (r.stop - position) (length bases)
+      → map (masked_byte how) (take to bases) ++ drop to bases ≡ masked_from how (r ∷ []) position bases
   from_inside [] position zero low e = refl
   from_inside [] position (suc to) low e = absurd (omega arith)
   from_inside (base ∷ bases) position zero low e = grind (arith, (from_inside bases (suc position) zero (omega arith) (omega arith)))
   from_inside (base ∷ bases) position (suc to) low e = grind (arith, (from_inside bases (suc position) to (omega arith) (omega arith)))
 
   -- from any position on
-  pub masked_between : (bases : List ℕ) (position from count : ℕ) → from ≡ min (s.start - position) (length bases) → from + count ≡ min (s.stop - position) (length bases)
-      → take from bases ++ (map (masked_byte how) (take count (drop from bases)) ++ drop count (drop from bases)) ≡ masked_in how (s ∷ []) position bases
+  pub masked_between : (bases : List ℕ) (position from count : ℕ) → from ≡ min (r.start - position) (length bases) → from + count ≡ min (r.stop - position) (length bases)
+      → take from bases ++ (map (masked_byte how) (take count (drop from bases)) ++ drop count (drop from bases)) ≡ masked_from how (r ∷ []) position bases
   masked_between [] position zero zero d e = refl
   masked_between [] position zero (suc count) d e = absurd (omega arith)
   masked_between [] position (suc from) count d e = absurd (omega arith)
@@ -269,11 +267,11 @@ module _ (how : MaskHow) (s : Extent) where
   masked_between (base ∷ bases) position (suc from) count d e = grind (arith, (masked_between bases (suc position) from count (omega arith) (omega arith)))
 
   -- if nothing is between, nothing changes
-  pub masked_nowhere : (bases : List ℕ) (position from to : ℕ) → from ≡ min (s.start - position) (length bases) → to ≡ min (s.stop - position) (length bases) → to ≤ from
-      → bases ≡ masked_in how (s ∷ []) position bases
+  pub masked_nowhere : (bases : List ℕ) (position from to : ℕ) → from ≡ min (r.start - position) (length bases) → to ≡ min (r.stop - position) (length bases) → to ≤ from
+      → bases ≡ masked_from how (r ∷ []) position bases
   masked_nowhere [] position from to d e high = refl
   masked_nowhere (base ∷ bases) position from to d e high =
-      ap (λ bs. base ∷ bs) (masked_nowhere bases (suc position) (min (s.start - suc position) (length bases)) (min (s.stop - suc position) (length bases)) refl refl (omega arith))
+      ap (λ bs. base ∷ bs) (masked_nowhere bases (suc position) (min (r.start - suc position) (length bases)) (min (r.stop - suc position) (length bases)) refl refl (omega arith))
       ∙ outside position base bases (grind (arith, nat_tests))
 
 -- What is wrong with a line of a SAM file.

@@ -3,12 +3,11 @@ use Rattle.std.specs.Prelude.{◌≡◌, ℕ, ◌&&◌, not, Bool, true, false, 
 use Rattle.std.specs.List.{last_or, list_all}
 use Rattle.bt_bed.specs.model.Feature.{Feature}
 use Rattle.bt_bed.specs.model.BedLine.{fault_at_line}
-use Rattle.bt_seq.specs.model.Masked.{is_sequence_header, line_decided, is_unnamed, Reached, SequenceLine, bases_up_to, masked_line, line_says, masked_text, no_sequence, own_records}
+use Rattle.bt_seq.specs.model.Masked.{is_sequence_header, line_decided, is_unnamed, Reached, SequenceLine, bases_up_to, masked_from, masked_line, line_says, masked_text, no_sequence, own_records}
 use Rattle.bt_seq.specs.calls.MaskState.{left_after}
 use Rattle.bt_lines.specs.model.Lines.{TextLine}
 use Rattle.bt_lines.specs.declared.fault.Input.TheVariants.{Second}
 use Rattle.bt_lines.specs.declared.fault.Kind.TheVariants.{NoSequence}
-use Rattle.bt_seq.specs.inside.Window.{masked_in}
 use Rattle.bt_seq.specs.declared.mask.mask_how.MaskHow.{MaskHow}
 use Rattle.bt_seq.specs.declared.mask.MaskWant.{MaskWant}
 use Rattle.bt_seq.specs.declared.mask.MaskWant.TheVariants.{Line, Bed, Nothing}
@@ -17,7 +16,6 @@ use Rattle.bt_bed.specs.calls.Orders.{AreInBlocks}
 use Rattle.bt_bed.specs.calls.Stage.{Follows, Stage, at_start, given, with_first, with_first_ended, with_second, with_second_ended, with_written}
 use Rattle.bt_lines.specs.calls.Reader.{lines_in}
 use Rattle.bt_lines.specs.declared.reader.buffered_lines.BufferedLines.{BufferedLines}
-use Rattle.bt_seq.specs.declared.mask.extent.Extent.{Extent}
 
 -- How far a masking engine has come: which lines of the FASTA input are written, which one waits, and
 -- which records of the BED input were taken. Then what it wants there, and what it holds.
@@ -183,13 +181,8 @@ first_unowned_is_told =
     → left_after names (map (λ (m : Member Feature). m.item) (past ++ m ∷ [])) ≡ None
     → no_sequence names (past ++ m ∷ more) ≡ Some (fault_at_line Second m.line NoSequence)
 
--- the positions of a record
-abbrev pub extent_of : Feature → Extent
-extent_of r = record { start = r.start; stop = r.stop }
-
 -- what is held by a line masks it as all records of its block do
 abbrev pub held_mask_alone : Type 0
 held_mask_alone =
     (how : MaskHow) (line : SequenceLine) (records : List Feature) → is_sequence_header line.text ≡ false
-    → masked_in how (map extent_of (held_for_line line records)) line.before line.text
-    ≡ masked_text how records line
+    → masked_from how (held_for_line line records) line.before line.text ≡ masked_text how records line

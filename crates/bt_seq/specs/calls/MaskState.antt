@@ -4,7 +4,7 @@ use Rattle.std.specs.List.{last_or}
 use Rattle.std.specs.Option.{option_map_or}
 use Rattle.bt_bed.specs.model.Feature.{Feature}
 use Rattle.bt_bed.specs.model.BedLine.{fault_at_line}
-use Rattle.bt_seq.specs.model.Masked.{names_behind, is_sequence_header, name_in, left_by, Owned, owned}
+use Rattle.bt_seq.specs.model.Masked.{names_behind, is_sequence_header, masked_from, name_in, left_by, Owned, owned}
 use Rattle.bt_seq.specs.declared.mask.matching.Owner.{Owner}
 use Rattle.bt_seq.specs.declared.mask.matching.Owner.TheVariants.{Own, Earlier, Nobody}
 use Rattle.bt_bed.specs.declared.record.taken.Taken.TheVariants.{Yes, No}
@@ -17,7 +17,7 @@ use Rattle.bt_lines.specs.declared.fault.Fault.{Fault}
 use Rattle.bt_lines.specs.declared.fault.Input.TheVariants.{First, Second}
 use Rattle.bt_lines.specs.declared.fault.Kind.TheVariants.{TextBeforeHeader, NoSequence}
 use Rattle.bt_lines.specs.declared.reader.line.LineEnd.{LineEnd}
-use Rattle.bt_seq.specs.inside.Window.{masked_in, Bounds, gone_on, limit, no_bases}
+use Rattle.bt_seq.specs.inside.Window.{Bounds, gone_on, limit, no_bases}
 use Rattle.bt_seq.specs.declared.mask.mask_how.MaskHow.{MaskHow}
 use Rattle.bt_seq.specs.declared.mask.MaskWant.{MaskWant}
 use Rattle.bt_seq.specs.declared.mask.MaskWant.TheVariants.{Line, Bed, Nothing}
@@ -145,7 +145,7 @@ moved_to m text =
 
 -- what is written of a line
 abbrev pub line_bytes : Masking → Waiting → List ℕ
-line_bytes m line = masked_in m.how m.window.held m.window.before line.text ++ end_bytes line.ending
+line_bytes m line = masked_from m.how m.window.held m.window.before line.text ++ end_bytes line.ending
 
 -- Whether a line of this text, to which it has moved, is written at once. It is if the records have ended,
 -- if no header has come, or if it is no header and lies where the record ahead decides it.
@@ -255,13 +255,11 @@ abbrev pub holds : Masking → Feature → Bool
 holds m r = holds_by (owner_of m.matched r.chrom) m.window r
 
 -- with the record held, if it has to be
-abbrev pub with_extent : Bool → Bounds → ℕ → ℕ → Bounds
-with_extent to_hold w start stop =
-    if to_hold then record w { held = w.held ++ record { start = start; stop = stop } ∷ [] } else w
+abbrev pub with_held : Bool → Bounds → Feature → Bounds
+with_held to_hold w r = if to_hold then record w { held = w.held ++ r ∷ [] } else w
 
 abbrev pub holding : Masking → Feature → Masking
-holding m r =
-    record (with_owner m r.chrom) { window = with_extent (holds m r) m.window r.start r.stop }
+holding m r = record (with_owner m r.chrom) { window = with_held (holds m r) m.window r }
 
 -- taking a record while a line waits
 abbrev pub TakesBed : Masking → Waiting → Feature → Output → Result Taken Fault → Masking → Output

@@ -1,11 +1,11 @@
 -- What the calls of a masking engine do.
-use Rattle.std.specs.Prelude.{◌≡◌, ◌⊎◌, Bool, true, false, List, [], map, Option, Some, None, is_some, option_map, ◌||◌, ℕ, length, nat_lt, not, cond, ◌∷◌, ◌++◌, Result, Ok, Err, ⊤, ◌+◌, ◌*◌}
+use Rattle.std.specs.Prelude.{◌≡◌, ◌⊎◌, Bool, true, false, List, [], Option, Some, None, is_some, option_map, ◌||◌, ℕ, length, nat_lt, not, cond, ◌∷◌, ◌++◌, Result, Ok, Err, ⊤, ◌+◌, ◌*◌}
 use Rattle.std.specs.List.{last_or}
 use Rattle.bt_bed.specs.model.Feature.{Feature}
 use Rattle.bt_bed.specs.model.BedLine.{fault_at_line}
 use Rattle.bt_bed.specs.calls.Orders.{AreInBlocks}
 use Rattle.bt_bed.specs.calls.Stage.{given}
-use Rattle.bt_seq.specs.calls.MaskStage.{extent_of, MaskStage, held_by, reached_by, want_at, is_written_at_once, reached, with_bed_ended, with_decided, with_line, with_record, LineBefore, GoesOn, PassesTextLines, MayComeNext, held_for_line}
+use Rattle.bt_seq.specs.calls.MaskStage.{MaskStage, held_by, reached_by, want_at, is_written_at_once, reached, with_bed_ended, with_decided, with_line, with_record, LineBefore, GoesOn, PassesTextLines, MayComeNext, held_for_line}
 use Rattle.bt_seq.specs.calls.MaskState.{Masking, Waiting, left_after}
 use Rattle.bt_seq.specs.inside.Masking.{KnowsStage}
 use Rattle.bt_seq.specs.model.Masked.{line_decided, is_unnamed, SequenceLine, is_sequence_header, masked_line, line_says}
@@ -54,10 +54,10 @@ pub record IsAtStage (stage : MaskStage) (last : Option SequenceLine) (m : Maski
   pub want_is : m.want ≡ want_at stage
   pub bed_ended_is : m.bed_ended ≡ stage.inputs.second_ended
   pub waits : (line : SequenceLine) → stage.inputs.waiting ≡ Some line → Waits stage line
-  -- what is held is what the last line needs: after the end of the lines too,
+  -- the records that are held are those that the last line needs: after the end of the lines too,
   -- if the records of each block rise
   pub holds : (stage.inputs.first_ended ≡ false) ⊎ AreInBlocks stage.inputs.taken
-      → m.window.held ≡ map extent_of (held_by last stage.inputs.taken)
+      → m.window.held ≡ held_by last stage.inputs.taken
   -- no record was taken but those that left the last line undecided
   pub is_open : stage.inputs.first_ended ≡ false → IsOpen last stage.inputs.taken
   -- each block taken belongs to a sequence

@@ -9,7 +9,7 @@ ghost use Rattle.bt_bed.specs.model.BedLine.{fault_at_line};
 ghost use Rattle.bt_lines.specs.calls.Reader.{lines_in};
 ghost use Rattle.bt_seq.specs.inside.Masking.{CopiesThrough};
 ghost use Rattle.bt_seq.specs.calls.MaskSteps.{GivesBoth};
-ghost use Rattle.bt_seq.specs.calls.MaskState.{ChecksBed, Keeps, Moves, TakesBed, TakesSequenceLine, Waiting, WritesWaiting, WritesGiven, decides_by, decides_up_to, with_extent, writes_at_once};
+ghost use Rattle.bt_seq.specs.calls.MaskState.{ChecksBed, Keeps, Moves, TakesBed, TakesSequenceLine, Waiting, WritesWaiting, WritesGiven, decides_by, decides_up_to, with_held, writes_at_once};
 ghost use Rattle.bt_seq.specs.inside.Window.{limit, no_bases};
 
 use crate::mask::MaskWant;
@@ -104,7 +104,7 @@ impl MaskState {
         self.phase.want()
     }
 
-    // How many extents are held: the list that is kept is the window's. Each field is named: with one more, in which a second
+    // How many records are held: the list that is kept is the window's. Each field is named: with one more, in which a second
     // list could be kept, this wouldn't compile.
     pub(crate) fn kept_len(&self) -> usize
         ensures { result ≡ length self.now.window.held }
@@ -193,7 +193,7 @@ impl MaskState {
             return Ok(Taken::No);
         }
         if owner == Owner::Own {
-            self.hold(bed.start, bed.stop)?;
+            self.hold(bed)?;
         }
         Ok(Taken::Yes)
     }
@@ -300,15 +300,15 @@ impl MaskState {
             || is_decided_to(text, self.window.bases(), self.decided_to)
     }
 
-    // Holds the part of a record that reaches past the start of the line.
-    fn hold(&mut self, start: u64, stop: u64) -> Result<(), Fault>
+    // Holds a record, if it reaches past the start of the line.
+    fn hold(&mut self, bed: &BedRef<'_>) -> Result<(), Fault>
         ensures held { OnOk result (self.new ≡ record self.old {
-          window = with_extent (nat_lt self.old.window.before stop) self.old.window start stop;
+          window = with_held (nat_lt self.old.window.before bed.now.stop) self.old.window (feature_lent bed.now);
         }) }
         ensures lost { IfErr result (λ fault. (fault_value fault ≡ no_memory) × (self.new.want ≡ MaskWant.Nothing)
-            × (nat_lt self.old.window.before stop ≡ true)) }
+            × (nat_lt self.old.window.before bed.now.stop ≡ true)) }
     {
-        if self.window.hold(start, stop).is_err() {
+        if self.window.hold(bed).is_err() {
             self.phase = Phase::Ended;
             return Err(no_memory());
         }

@@ -1,8 +1,8 @@
 //! The engine of `bedtools maskfasta`.
 
 pub(crate) mod copy_through;
-pub(crate) mod extent;
 pub(crate) mod header_name;
+pub(crate) mod held_record;
 pub(crate) mod mask_how;
 pub(crate) mod mask_state;
 pub(crate) mod matching;
@@ -10,6 +10,7 @@ pub(crate) mod phase;
 #[cfg(test)]
 mod plain;
 pub(crate) mod put_text;
+pub(crate) mod taken_record;
 pub(crate) mod window;
 
 ghost use Rattle.std.specs.Prelude.{◌≡◌, ◌<◌, ◌⊎◌, [], Bool, None, OnErr, OnOk, Some, false, length, true};

@@ -277,9 +277,18 @@ const HELD: [Step; 16] = [
     Step::Line(b"TTTT"), Step::Takes(b"t\t0\t1"), Step::Keeps(1),
 ];
 
+// A record that ends where a line starts isn't held by that line, and one that ends past it is.
+#[rattlefmt::skip]
+const ENDED: [Step; 11] = [
+    Step::Line(b">s"), Step::Leaves(b"s\t0\t2"),
+    Step::Line(b"AC"), Step::Takes(b"s\t0\t2"), Step::Takes(b"s\t1\t3"), Step::Leaves(b"s\t2\t4"), Step::Keeps(2),
+    Step::Line(b"GT"), Step::Keeps(1), Step::Takes(b"s\t2\t4"), Step::Keeps(2),
+];
+
 #[test]
 fn records_that_reach_into_the_line_are_held(rt: HostRuntime) {
     assert_eq!(rt; first_otherwise(rt.alloc(), &HELD).0, None);
+    assert_eq!(rt; first_otherwise(rt.alloc(), &ENDED).0, None);
 }
 
 #[rattlefmt::skip]

@@ -1,17 +1,20 @@
 //! The bases of the line given last, and the records that reach into them.
 
 ghost use Rattle.std.specs.Prelude.{◌≡◌, ◌+◌, ◌≤◌, [], ◌∷◌, ◌++◌, OnOk, OnErr, filter, length, min, nat_eq, nat_lt, true, if◌then◌else◌};
-ghost use Rattle.bt_seq.specs.inside.Window.{gone_on, limit, masked_in, no_bases};
+ghost use Rattle.bt_bed.specs.calls.Bed.{feature_lent};
+ghost use Rattle.bt_seq.specs.inside.Window.{gone_on, limit, no_bases};
+ghost use Rattle.bt_seq.specs.model.Masked.{masked_from};
 
-use crate::mask::extent::{Extent, mask_extents};
+use crate::mask::held_record::{HeldRecord, mask_records};
 use crate::mask::mask_how::MaskHow;
+use bt_bed::BedRef;
 use std::alloc::{AllocError, Global};
 use std::marker::Model;
 
 // How far the bases of a sequence are counted. No record reaches beyond it.
 pub(crate) const LIMIT: u64 = 1_000_000_000_000;
 
-// How many bases of its sequence come before the line, and up to its end. Then the extents of the
+// How many bases of its sequence come before the line, and up to its end. Then the
 // records that start before its end and reach past its start, in file order.
 #[derive(Drop)]
 pub(crate) struct Window {
@@ -20,7 +23,7 @@ pub(crate) struct Window {
     // At least `before`, at most the limit.
     bases: u64,
     // In file order, each reaching into the line.
-    held: Vec<Extent>,
+    held: Vec<HeldRecord>,
 }
 
 impl Model for Window {
@@ -91,21 +94,21 @@ impl Window {
         self.bases = bases;
     }
 
-    // Holds the part of a record that reaches past the start of the line.
-    pub(crate) fn hold(&mut self, start: u64, stop: u64) -> Result<(), AllocError>
-        ensures held { OnOk result (self.new ≡ (if nat_lt self.old.before stop
-            then record self.old { held = self.old.held ++ record { start = start; stop = stop } ∷ [] }
+    // Holds a record, if it reaches past the start of the line.
+    pub(crate) fn hold(&mut self, bed: &BedRef<'_>) -> Result<(), AllocError>
+        ensures held { OnOk result (self.new ≡ (if nat_lt self.old.before bed.now.stop
+            then record self.old { held = self.old.held ++ feature_lent bed.now ∷ [] }
             else self.old)) }
-        ensures unchanged { OnErr result ((self.new ≡ self.old) × (nat_lt self.old.before stop ≡ true)) }
+        ensures unchanged { OnErr result ((self.new ≡ self.old) × (nat_lt self.old.before bed.now.stop ≡ true)) }
     {
-        if stop <= self.before {
+        if bed.stop <= self.before {
             return Ok(());
         }
-        self.held.push(Extent { start, stop })?;
+        self.held.push(HeldRecord::of(bed))?;
         Ok(())
     }
 
-    // How many extents are held, in the only list.
+    // How many records are held, in the only list.
     pub(crate) fn len(&self) -> usize
         ensures { result ≡ length self.now.held }
     {
@@ -126,9 +129,9 @@ impl Window {
 
     // Masks the bases of the line.
     pub(crate) fn mask(&self, bases: &mut [u8], how: MaskHow)
-        ensures { bases.new ≡ masked_in how self.now.held self.now.before bases.old }
+        ensures { bases.new ≡ masked_from how self.now.held self.now.before bases.old }
     {
-        mask_extents(bases, self.before, self.held.as_slice(), how);
+        mask_records(bases, self.before, self.held.as_slice(), how);
     }
 }
 
@@ -145,9 +148,9 @@ pub(crate) fn up_to_limit(bases: u64, count: usize) -> u64
     }
 }
 
-// Drops the extents that end at or before the place.
-fn drop_passed(held: &mut Vec<Extent>, place: u64)
-    ensures { held.new.items ≡ filter (λ s. nat_lt place s.stop) held.old.items }
+// Drops the records that end at or before the place.
+fn drop_passed(held: &mut Vec<HeldRecord>, place: u64)
+    ensures { held.new.items ≡ filter (λ r. nat_lt place r.stop) held.old.items }
 {
-    held.retain(|extent| place < extent.stop);
+    held.retain(|record| place < record.stop());
 }

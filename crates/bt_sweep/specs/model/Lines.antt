@@ -24,14 +24,12 @@ has_position p r = nat_le r.start p && nat_lt p r.stop
 abbrev pub is_left : Feature → List Feature → ℕ → Bool
 is_left a others p = nat_le a.start p && not (list_any (has_position p) others)
 
--- the one list of intervals of the positions below a length that pass a test: its type says which list it is, so how it is
+-- the pieces that are left of a: the one list of intervals of those positions. Its type says which list it is, so how it is
 -- found needn't be read
-abbrev pub the_stretches : (test : ℕ → Bool) (size : ℕ) → OneSpanList test size
-the_stretches = one_span_list
-
--- the pieces that are left of a: the stretches of those positions
 unfoldable pub pieces : Feature → List Feature → List Span
-pieces a others = (the_stretches (is_left a others) a.stop).spans
+pieces a others =
+    let one : OneSpanList (is_left a others) a.stop = one_span_list (is_left a others) a.stop in
+    one.spans
 
 -- What intersect and subtract write of a record and of those that hit it (bedtools manual). For
 -- intersect these are the default behaviour and the options -wa, -wb, -wo, -u,

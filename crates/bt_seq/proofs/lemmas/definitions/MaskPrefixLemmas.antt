@@ -7,15 +7,13 @@ use Rattle.bt_bed.specs.calls.Orders.{AreInBlocks, IsBlockUpTo}
 use Rattle.bt_lines.specs.model.Lines.{end_bytes}
 use Rattle.bt_seq.proofs.lemmas.definitions.KnowsLemmas.{leave, leave_all}
 use Rattle.bt_seq.proofs.lemmas.Sam.{Tagged, decided_tagged, last_from, next_left, own_in, own_tagged, tag_decides, tags, tags_append, tags_of, AllHaveOne, blocks_have_one, spread, tag_items, tags_all}
-use Rattle.bt_seq.specs.calls.MaskStage.{decided_lines_stay, masked_lines_are_before, masked_lines_stay, first_unowned_is_told, owned_lack_none, held_mask_alone, extent_of, held_for_line}
+use Rattle.bt_seq.specs.calls.MaskStage.{decided_lines_stay, masked_lines_are_before, masked_lines_stay, first_unowned_is_told, owned_lack_none, held_mask_alone, held_for_line}
 use Rattle.bt_seq.specs.model.Masked.{record_covers, line_decided, is_unnamed, masked_from, masked_text, block_decides, items_if_last, left_by, own_records, SequenceLine, bases_in, bases_up_to, is_sequence_header, no_sequence, told_at_first, Block, Owned, blocks_by, owned_from}
 use Rattle.bt_seq.specs.declared.mask.mask_how.MaskHow.{MaskHow}
 use Rattle.std.specs.Prelude.{find}
 use Rattle.bt_lines.specs.model.Fault.{FaultValue}
 use Rattle.bt_lines.specs.declared.fault.Input.TheVariants.{Second}
 use Rattle.bt_lines.specs.declared.fault.Kind.TheVariants.{NoSequence}
-use Rattle.bt_seq.specs.inside.Window.{extent_has, masked_in}
-use Rattle.bt_seq.specs.declared.mask.extent.Extent.{Extent}
 
 abbrev pub chrom_of : Feature → List ℕ
 chrom_of r = r.chrom
@@ -233,24 +231,24 @@ first_is_told = grind (arith, told_tagged, first_told, leave_all)
 
 module _ (from to position : ℕ) (low : from ≤ position) (high : position < to) where
   any_held_at : (r : Feature) (rs : List Feature) (t : Bool) → (nat_lt r.start to && nat_lt from r.stop) ≡ t
-      → list_any (extent_has position) (map extent_of (filter (λ (r : Feature). nat_lt r.start to && nat_lt from r.stop) rs)) ≡ list_any (record_covers position) rs
-      → list_any (extent_has position) (map extent_of (cond t (r ∷ filter (λ (r : Feature). nat_lt r.start to && nat_lt from r.stop) rs) (filter (λ (r : Feature). nat_lt r.start to && nat_lt from r.stop) rs))) ≡ list_any (record_covers position) (r ∷ rs)
+      → list_any (record_covers position) (filter (λ (r : Feature). nat_lt r.start to && nat_lt from r.stop) rs) ≡ list_any (record_covers position) rs
+      → list_any (record_covers position) (cond t (r ∷ filter (λ (r : Feature). nat_lt r.start to && nat_lt from r.stop) rs) (filter (λ (r : Feature). nat_lt r.start to && nat_lt from r.stop) rs)) ≡ list_any (record_covers position) (r ∷ rs)
   any_held_at r rs t e rest = grind arith
 
   -- of the positions in between, the records that reach into them cover those that all cover
-  any_held : (rs : List Feature) → list_any (extent_has position) (map extent_of (filter (λ (r : Feature). nat_lt r.start to && nat_lt from r.stop) rs)) ≡ list_any (record_covers position) rs
+  any_held : (rs : List Feature) → list_any (record_covers position) (filter (λ (r : Feature). nat_lt r.start to && nat_lt from r.stop) rs) ≡ list_any (record_covers position) rs
   any_held [] = refl
   any_held (r ∷ rs) = any_held_at r rs (nat_lt r.start to && nat_lt from r.stop) refl (any_held rs)
 
-masked_alike : (how : MaskHow) (extents : List Extent) (records : List Feature) (bases : List ℕ) (position : ℕ)
-    → ((at : ℕ) → position ≤ at → at < position + length bases → list_any (extent_has at) extents ≡ list_any (record_covers at) records)
-    → masked_in how extents position bases ≡ masked_from how records position bases
-masked_alike how extents records [] position h = refl
-masked_alike how extents records (base ∷ bases) position h = grind (arith, (masked_alike how extents records bases (suc position) (λ at low high. h at (omega arith) (omega arith))))
+masked_alike : (how : MaskHow) (held records : List Feature) (bases : List ℕ) (position : ℕ)
+    → ((at : ℕ) → position ≤ at → at < position + length bases → list_any (record_covers at) held ≡ list_any (record_covers at) records)
+    → masked_from how held position bases ≡ masked_from how records position bases
+masked_alike how held records [] position h = refl
+masked_alike how held records (base ∷ bases) position h = grind (arith, (masked_alike how held records bases (suc position) (λ at low high. h at (omega arith) (omega arith))))
 
 pub held_alone : held_mask_alone
 held_alone how line records plain =
     let own = own_records line.names records in
     let count : bases_in line.text ≡ length line.text = ap (λ b. cond b 0 (length line.text)) plain in
-    masked_alike how (map extent_of (held_for_line line records)) own line.text line.before (λ at low high. any_held line.before (line.before + bases_in line.text) at low (omega (arith, high, count)) own)
+    masked_alike how (held_for_line line records) own line.text line.before (λ at low high. any_held line.before (line.before + bases_in line.text) at low (omega (arith, high, count)) own)
     ∙ sym (ap (λ b. cond b line.text (masked_from how own line.before line.text)) plain)

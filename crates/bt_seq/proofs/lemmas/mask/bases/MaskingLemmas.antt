@@ -9,10 +9,9 @@ use Rattle.bt_seq.specs.calls.MaskState.{Keeps, Masking, TakesSequenceLine, Wait
 use Rattle.bt_seq.specs.model.Masked.{ends_name}
 use Rattle.bt_seq.specs.declared.mask.MaskWant.TheVariants.{Line, Bed, Nothing}
 use Rattle.bt_seq.specs.declared.mask.matching.Owner.{Owner}
-use Rattle.bt_seq.specs.declared.mask.extent.Extent.{Extent}
 use Rattle.bt_lines.specs.calls.Columns.{IsBefore, Lacks}
 
-pub none_held : (held : List Extent) → nat_eq (length held) 0 ≡ true → held ≡ []
+pub none_held : (held : List Feature) → nat_eq (length held) 0 ≡ true → held ≡ []
 none_held held e = grind (arith, common_steps)
 
 -- it was written as it was given

@@ -1,5 +1,5 @@
 -- Lemmas on a masking engine that is given a record, or the end of the records.
-use Rattle.bt_lines.proofs.Std.{common_steps, rules, ◌≡◌, ℕ, ◌≤◌, ◌<◌, min, Bool, true, false, cond, ◌&&◌, ◌||◌, nat_lt, List, [], ◌∷◌, ◌++◌, map, filter, Option, Some, None, Result, Ok, Err, refl, sym, ap, ◌∙◌, subst, append-nil, inl, inr, ◌⊎◌, arith, is_some, option_map, option_to_list, nat_tests, map-append, filter-append, append_assoc, false≢true, flat_map-append, list_all-append}
+use Rattle.bt_lines.proofs.Std.{common_steps, rules, ◌≡◌, ℕ, ◌≤◌, ◌<◌, min, Bool, true, false, cond, ◌&&◌, ◌||◌, nat_lt, List, [], ◌∷◌, ◌++◌, filter, Option, Some, None, Result, Ok, Err, refl, sym, ap, ◌∙◌, subst, append-nil, inl, inr, ◌⊎◌, arith, is_some, option_map, option_to_list, nat_tests, filter-append, append_assoc, false≢true, flat_map-append, list_all-append}
 use Rattle.std.specs.List.{last_or}
 use Rattle.bt_bed.specs.model.Feature.{Feature}
 use Rattle.bt_bed.specs.model.BedLine.{fault_at_line}
@@ -14,8 +14,8 @@ use Rattle.bt_seq.proofs.lemmas.mask.bases.KnownLemmas.{MayTake, never, next_can
 use Rattle.bt_seq.proofs.lemmas.definitions.MaskPrefixLemmas.{blocks_front, decided_stays, held_before, masked_before, masked_stay}
 use Rattle.bt_seq.proofs.lemmas.mask.steps.CopyLemmas.{decided_more, own_more, last_waits, stands_at, wants_bed, last_more}
 use Rattle.bt_bed.specs.calls.Stage.{Follows, Stage, given, with_first}
-use Rattle.bt_seq.specs.calls.MaskStage.{extent_of, MayComeNext, MaskStage, reached, mask_want_of, with_decided, with_record, SayEach, GoesOn, MayFollow, SettlesLines, is_written_ahead, is_written_at_once, reached_by, with_line, held_for_line}
-use Rattle.bt_seq.specs.calls.MaskState.{owner_by, owner_of, Masking, TakesBed, WritesWaiting, decides_line, decides_up_to, holding, holds, holds_by, line_bytes, with_owner, with_extent, left_after}
+use Rattle.bt_seq.specs.calls.MaskStage.{MayComeNext, MaskStage, reached, mask_want_of, with_decided, with_record, SayEach, GoesOn, MayFollow, SettlesLines, is_written_ahead, is_written_at_once, reached_by, with_line, held_for_line}
+use Rattle.bt_seq.specs.calls.MaskState.{owner_by, owner_of, Masking, TakesBed, WritesWaiting, decides_line, decides_up_to, holding, holds, holds_by, line_bytes, with_owner, with_held, left_after}
 use Rattle.bt_seq.specs.inside.Masking.{Counts, IsDecided, KnowsLast, KnowsNone, decided_up_to}
 use Rattle.bt_seq.specs.calls.MaskSteps.{MaskMovesTo, IsAtStage, Waits, kept_line, ChecksRecord, EndsRecords, GivesBed, LacksSequence, WritesLine, bytes_with}
 use Rattle.bt_seq.specs.model.Masked.{line_decided, masked_line, block_decides, items_if_last, own_records, SequenceLine, bases_up_to, is_unnamed, Reached, line_says}
@@ -25,10 +25,9 @@ use Rattle.bt_seq.specs.declared.mask.MaskWant.TheVariants.{Line, Bed}
 use Rattle.bt_bed.specs.declared.record.taken.Taken.{Taken}
 use Rattle.bt_bed.specs.declared.record.taken.Taken.TheVariants.{Yes, No}
 use Rattle.bt_seq.specs.declared.mask.matching.Owner.TheVariants.{Nobody}
-use Rattle.bt_seq.specs.declared.mask.extent.Extent.{Extent}
 
-extent_counts : (last : Option SequenceLine) (w : Bounds) (b : Bool) (start stop : ℕ) → Counts last w → Counts last (with_extent b w start stop)
-extent_counts last w b start stop c = grind arith
+held_counts : (last : Option SequenceLine) (w : Bounds) (b : Bool) (r : Feature) → Counts last w → Counts last (with_held b w r)
+held_counts last w b r c = grind arith
 
 module _ (line : SequenceLine) (r : Feature) (range : r.stop ≤ max_number) where
   abbrev reaches : Feature → Bool
@@ -39,9 +38,9 @@ module _ (line : SequenceLine) (r : Feature) (range : r.stop ≤ max_number) whe
   held_more rs = ap (filter reaches) (own_more line.names rs r) ∙ filter-append reaches (own_records line.names rs) (items_if_last (left_after line.names (rs ++ r ∷ [])) (r ∷ []))
 
   module _ (w : Bounds) (before : w.before ≡ min line.before limit) where
-    extent_more : (left : Option (List (List ℕ))) → block_decides (bases_up_to line) left (r ∷ []) ≡ false
-        → (with_extent (holds_by (owner_by left) w r) w r.start r.stop).held ≡ w.held ++ map extent_of (filter reaches (items_if_last left (r ∷ [])))
-    extent_more left e = grind (arith, append-nil)
+    held_one : (left : Option (List (List ℕ))) → block_decides (bases_up_to line) left (r ∷ []) ≡ false
+        → (with_held (holds_by (owner_by left) w r) w r).held ≡ w.held ++ filter reaches (items_if_last left (r ∷ []))
+    held_one left e = grind (arith, append-nil)
 
     hold_item : (left : Option (List (List ℕ))) → block_decides (bases_up_to line) left (r ∷ []) ≡ false → holds_by (owner_by left) w r ≡ true → filter reaches (items_if_last left (r ∷ [])) ≡ r ∷ []
     hold_item left e d = grind arith
@@ -93,7 +92,7 @@ module _ (how : MaskHow) (full : Bool) (stage : MaskStage) (line : SequenceLine)
     taken_stands e =
         let undecided : block_decides (bases_up_to line) left (r ∷ []) ≡ false = sym decides_is ∙ e in
         let owned : is_some left ≡ true = grind arith in
-        let held : old.window.held ≡ map extent_of (held_for_line line stage.inputs.taken) =
+        let held : old.window.held ≡ held_for_line line stage.inputs.taken =
         at_last.holds (inl as_waits.lines) in
         stands_at how full (with_record stage r) (holding old r) (Some line) (last_waits stage line waits) stands.how_is stands.full_is (record {
           waiting_is = at_last.waiting_is;
@@ -101,15 +100,14 @@ module _ (how : MaskHow) (full : Bool) (stage : MaskStage) (line : SequenceLine)
           bed_ended_is = at_last.bed_ended_is;
           waits = λ l d. let w = stands.stands.waits l d in record { lines = w.lines; bed = w.bed; named = w.named; header = w.header };
           holds = λ d.
-              ap (λ h. (with_extent h old.window r.start r.stop).held) holds_is
-              ∙ extent_more line r range old.window at_last.inside.counts.before left undecided
-              ∙ ap (λ (l : List Extent). l ++ map extent_of (filter (reaches line r range) (items_if_last left (r ∷ [])))) held
-              ∙ sym (map-append extent_of (held_for_line line stage.inputs.taken) (filter (reaches line r range) (items_if_last left (r ∷ []))))
-              ∙ sym (ap (map extent_of) (held_more line r range stage.inputs.taken));
+              ap (λ h. (with_held h old.window r).held) holds_is
+              ∙ held_one line r range old.window at_last.inside.counts.before left undecided
+              ∙ ap (λ (l : List Feature). l ++ filter (reaches line r range) (items_if_last left (r ∷ []))) held
+              ∙ sym (held_more line r range stage.inputs.taken);
           is_open = λ d. inr (decided_is ∙ e);
           owned = owned;
           inside = record {
-            counts = extent_counts (Some line) old.window (holds old r) r.start r.stop at_last.inside.counts;
+            counts = held_counts (Some line) old.window (holds old r) r at_last.inside.counts;
             name_is = (grind arith) ∙ at_last.inside.name_is;
             is_decided = λ n. absurd (let apart : Some line ≡ None = sym waits ∙ n in cc);
             in_range = range_more stage.inputs.taken r at_last.inside.in_range range;
@@ -157,7 +155,12 @@ module _ (how : MaskHow) (full : Bool) (stage : MaskStage) (line : SequenceLine)
 
     module _ (out : Output) (new : Masking) (grown : Output) where
       writes_line : (decides_line old r ≡ true) → Grown out (line_bytes old (kept_line line)) grown → new ≡ after_decided → WritesLine how full stage line r out new grown
-      writes_line e puts is = grind (arith, decided_is, decided_stands, line_masked, at_last, masked_before)
+      writes_line e puts is = record {
+        decides = decided_is ∙ e;
+        stands = subst (MaskMovesTo how full (with_decided stage r)) (sym is) (decided_stands e);
+        puts = subst (λ bytes. Grown out bytes grown) bytes_are puts;
+        settled = masked_before how line stage.inputs.taken r (decided_is ∙ e);
+      }
 
       pub gives_bed : (answer : Result Taken Fault) → TakesBed old (kept_line line) r out answer new grown → GivesBed how full stage line r out answer new grown
       gives_bed (Ok Yes) t = grind (arith, decided_is, taken_stands)

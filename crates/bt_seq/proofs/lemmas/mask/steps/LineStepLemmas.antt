@@ -1,18 +1,17 @@
 -- Lemmas on bases that are counted as far as records reach, and on what is held.
-use Rattle.bt_lines.proofs.Std.{◌≡◌, ℕ, suc, ◌+◌, ◌<◌, ◌≤◌, min, Bool, true, false, cond, ◌&&◌, ◌||◌, nat_le, nat_lt, length, List, [], ◌∷◌, ◌++◌, Option, Some, None, map, filter, refl, sym, ap, ◌∙◌, subst, arith, AllByRecursion, list_any, nat_tests, or_parts, not, Result, Ok, Err, append-nil, inl, inr, ◌⊎◌, is_none, is_some, option_map, length-map, cases_Bool, not-true, not-false}
+use Rattle.bt_lines.proofs.Std.{◌≡◌, ℕ, suc, ◌+◌, ◌<◌, ◌≤◌, min, Bool, true, false, cond, ◌&&◌, ◌||◌, nat_le, nat_lt, length, List, [], ◌∷◌, ◌++◌, Option, Some, None, filter, refl, sym, ap, ◌∙◌, subst, arith, AllByRecursion, list_any, nat_tests, or_parts, not, Result, Ok, Err, append-nil, inl, inr, ◌⊎◌, is_none, is_some, option_map, length-map, cases_Bool, not-true, not-false}
 use Rattle.bt_bed.specs.model.Feature.{Feature}
 use Rattle.bt_lines.specs.model.Lines.{max_number, end_bytes, TextLine}
 use Rattle.bt_seq.proofs.lemmas.definitions.MaskPrefixLemmas.{held_alone, chrom_of, decided_by_tags, masked_before}
 use Rattle.bt_seq.proofs.lemmas.Sam.{none_masked, next_left, own_in, own_tagged, tag_decides, tags, tags_of}
 use Rattle.bt_bed.specs.calls.Stage.{given, with_first}
-use Rattle.bt_seq.specs.calls.MaskStage.{extent_of, MaskStage, held_by, is_written_ahead, is_written_at_once, reached, reached_by, mask_want_of, with_line, held_for_line}
+use Rattle.bt_seq.specs.calls.MaskStage.{MaskStage, held_by, is_written_ahead, is_written_at_once, reached, reached_by, mask_want_of, with_line, held_for_line}
 use Rattle.bt_seq.specs.calls.MaskState.{Masking, line_bytes, TakesSequenceLine, Waiting, bytes_at_once, is_stray, may_grow, moved_to, writes_at_once, Matched, named, left_after}
 use Rattle.bt_seq.specs.calls.MaskSteps.{kept_line, IsOpen, MaskMovesTo, FailsWithLine, GivesNextLine, RefusesLine, TakesNextLine, bytes_with, may_need_memory}
-use Rattle.bt_seq.specs.model.Masked.{masked_from, masked_line, masked_text, block_decides, items_if_last, own_records, SequenceLine, bases_up_to, is_sequence_header, line_decided, is_unnamed, bases_in, header_behind, line_behind, line_says, may_stand, name_in}
+use Rattle.bt_seq.specs.model.Masked.{masked_from, masked_line, record_covers, masked_text, block_decides, items_if_last, own_records, SequenceLine, bases_up_to, is_sequence_header, line_decided, is_unnamed, bases_in, header_behind, line_behind, line_says, may_stand, name_in}
 use Rattle.bt_seq.specs.inside.Masking.{AreInRange, Counts, KnowsNext, decided_up_to}
-use Rattle.bt_seq.specs.inside.Window.{extent_has, masked_in, limit, Bounds, gone_on, no_bases}
+use Rattle.bt_seq.specs.inside.Window.{limit, Bounds, gone_on, no_bases}
 use Rattle.bt_seq.specs.declared.mask.mask_how.MaskHow.{MaskHow}
-use Rattle.bt_seq.specs.declared.mask.extent.Extent.{Extent}
 use Rattle.std.specs.List.{last_or}
 use Rattle.bt_lines.specs.calls.Names.{fault_value}
 use Rattle.bt_lines.specs.calls.Output.{Output, FailsToAdd, Grown}
@@ -57,47 +56,43 @@ module _ (first low high : ℕ) (up : first ≤ low) (further : low ≤ high) wh
   abbrev is_new : Feature → Bool
   is_new r = nat_lt r.start high && nat_lt low r.stop
 
-  abbrev goes_past : Extent → Bool
-  goes_past s = nat_lt (min low limit) s.stop
+  abbrev goes_past : Feature → Bool
+  goes_past r = nat_lt (min low limit) r.stop
 
-  held_if : (r : Feature) (old new : List Feature) (p w : Bool) → (p && nat_lt (min low limit) r.stop) ≡ w → filter goes_past (map extent_of old) ≡ map extent_of new
-      → filter goes_past (map extent_of (cond p (r ∷ old) old)) ≡ map extent_of (cond w (r ∷ new) new)
+  held_if : (r : Feature) (old new : List Feature) (p w : Bool) → (p && nat_lt (min low limit) r.stop) ≡ w → filter goes_past old ≡ new
+      → filter goes_past (cond p (r ∷ old) old) ≡ cond w (r ∷ new) new
   held_if r old new p w e rest = grind arith
 
-  pub held_on : (own : List Feature) → AllByRecursion (IsLow low) own → filter goes_past (map extent_of (filter is_old own)) ≡ map extent_of (filter is_new own)
+  pub held_on : (own : List Feature) → AllByRecursion (IsLow low) own → filter goes_past (filter is_old own) ≡ filter is_new own
   held_on [] h = refl
   held_on (r ∷ rs) h = held_if r (filter is_old rs) (filter is_new rs) (is_old r) (is_new r) (grind arith) (held_on rs h.1)
 
--- extents in range
-abbrev AreShort : List Extent → Type 0
-AreShort extents = AllByRecursion (λ (s : Extent). s.stop ≤ max_number) extents
+range_if : (p : Bool) (r : Feature) (rs : List Feature) → r.stop ≤ max_number → AreInRange rs → AreInRange (cond p (r ∷ rs) rs)
+range_if p r rs h k = grind arith
 
-short_if : (p : Bool) (r : Feature) (rs : List Feature) → r.stop ≤ max_number → AreShort (map extent_of rs) → AreShort (map extent_of (cond p (r ∷ rs) rs))
-short_if p r rs h k = grind arith
+held_range : (p : Feature → Bool) (rs : List Feature) → AreInRange rs → AreInRange (filter p rs)
+held_range p [] h = tt
+held_range p (r ∷ rs) h = range_if (p r) r (filter p rs) h.0 (held_range p rs h.1)
 
-held_short : (p : Feature → Bool) (rs : List Feature) → AreInRange rs → AreShort (map extent_of (filter p rs))
-held_short p [] h = tt
-held_short p (r ∷ rs) h = short_if (p r) r (filter p rs) h.0 (held_short p rs h.1)
-
-no_extent : (position : ℕ) (extents : List Extent) → limit ≤ position → AreShort extents → list_any (extent_has position) extents ≡ false
-no_extent position [] far h = refl
-no_extent position (s ∷ ss) far h =
-    let none : extent_has position s ≡ false = grind (arith, nat_tests) in
-    ap (λ b. b || list_any (extent_has position) ss) none ∙ no_extent position ss far h.1
+none_covers : (position : ℕ) (rs : List Feature) → limit ≤ position → AreInRange rs → list_any (record_covers position) rs ≡ false
+none_covers position [] far h = refl
+none_covers position (r ∷ rs) far h =
+    let none : record_covers position r ≡ false = grind (arith, nat_tests) in
+    ap (λ b. b || list_any (record_covers position) rs) none ∙ none_covers position rs far h.1
 
 -- after all numbers nothing is masked
-unmasked : (how : MaskHow) (extents : List Extent) (position : ℕ) (text : List ℕ) → limit ≤ position → AreShort extents → masked_in how extents position text ≡ text
-unmasked how extents position [] far h = refl
-unmasked how extents position (base ∷ text) far h = grind (arith, no_extent, unmasked how extents (suc position) text (omega arith) h)
+unmasked : (how : MaskHow) (rs : List Feature) (position : ℕ) (text : List ℕ) → limit ≤ position → AreInRange rs → masked_from how rs position text ≡ text
+unmasked how rs position [] far h = refl
+unmasked how rs position (base ∷ text) far h = grind (arith, none_covers, unmasked how rs (suc position) text (omega arith) h)
 
 -- so no more bases need to be counted
-counted_by : (how : MaskHow) (extents : List Extent) (before : ℕ) (text : List ℕ) → AreShort extents → (b : Bool) → nat_le before limit ≡ b → masked_in how extents (min before limit) text ≡ masked_in how extents before text
-counted_by how extents before text h true e =
+counted_by : (how : MaskHow) (rs : List Feature) (before : ℕ) (text : List ℕ) → AreInRange rs → (b : Bool) → nat_le before limit ≡ b → masked_from how rs (min before limit) text ≡ masked_from how rs before text
+counted_by how rs before text h true e =
     let low : before ≤ limit = grind (arith, nat_tests) in
-    ap (λ p. masked_in how extents p text) (omega arith)
-counted_by how extents before text h false e =
+    ap (λ p. masked_from how rs p text) (omega arith)
+counted_by how rs before text h false e =
     let far : limit ≤ before = grind (arith, nat_tests) in
-    ap (λ p. masked_in how extents p text) (omega arith) ∙ unmasked how extents limit text (omega arith) h ∙ sym (unmasked how extents before text far h)
+    ap (λ p. masked_from how rs p text) (omega arith) ∙ unmasked how rs limit text (omega arith) h ∙ sym (unmasked how rs before text far h)
 
 none_before : (stop : ℕ) (p : Feature → Bool) (rs : List Feature) → stop ≡ 0 → filter (λ (r : Feature). nat_lt r.start stop && p r) rs ≡ []
 none_before stop p [] e = refl
@@ -110,16 +105,16 @@ module _ (how : MaskHow) (line : SequenceLine) (rs : List Feature) (range : AreI
   own_in_range : AreInRange (own_records line.names rs)
   own_in_range = subst AreInRange (sym (own_tagged line.names rs)) (own_range (Some line.names) None rs range)
 
-  text_by : (h : Bool) → is_sequence_header line.text ≡ h → (h ≡ true → line.before ≡ 0) → masked_in how (map extent_of (held_for_line line rs)) (min line.before limit) line.text ≡ masked_text how rs line
+  text_by : (h : Bool) → is_sequence_header line.text ≡ h → (h ≡ true → line.before ≡ 0) → masked_from how (held_for_line line rs) (min line.before limit) line.text ≡ masked_text how rs line
   text_by true e header =
       let none : bases_up_to line ≡ 0 = ap (λ b. line.before + cond b 0 (length line.text)) e ∙ ap (λ n. n + 0) (header refl) in
-      ap (λ (l : List Feature). masked_in how (map extent_of l) (min line.before limit) line.text) (none_before (bases_up_to line) (λ (r : Feature). nat_lt line.before r.stop) (own_records line.names rs) none)
+      ap (λ (l : List Feature). masked_from how l (min line.before limit) line.text) (none_before (bases_up_to line) (λ (r : Feature). nat_lt line.before r.stop) (own_records line.names rs) none)
       ∙ sym (none_masked how (min line.before limit) line.text)
       ∙ sym (ap (λ b. cond b line.text (masked_from how (own_records line.names rs) line.before line.text)) e)
-  text_by false e header = grind (arith, counted_by, held_short, own_in_range, held_alone)
+  text_by false e header = grind (arith, counted_by, held_range, own_in_range, held_alone)
 
   -- so what is written of it are its bytes
-  pub line_masked : (is_sequence_header line.text ≡ true → line.before ≡ 0) → (m : Masking) → m.how ≡ how → m.window.held ≡ map extent_of (held_for_line line rs) → m.window.before ≡ min line.before limit
+  pub line_masked : (is_sequence_header line.text ≡ true → line.before ≡ 0) → (m : Masking) → m.how ≡ how → m.window.held ≡ held_for_line line rs → m.window.before ≡ min line.before limit
       → line_bytes m (kept_line line) ≡ masked_line how rs line
   line_masked header m same_how held before = ap (λ t. t ++ end_bytes line.ending) (rw (same_how, held, before) (text_by (is_sequence_header line.text) refl header))
 
@@ -140,17 +135,17 @@ module _ (taken : List Feature) (range : AreInRange taken) (line : TextLine) (pl
   undecided_tags : (l : SequenceLine) → line_decided l taken ≡ false → list_any (tag_decides (bases_up_to l)) (tags_of l.names taken) ≡ false
   undecided_tags l e = (or_parts (is_unnamed l.names) (list_any (tag_decides (bases_up_to l)) (tags_of l.names taken)) (sym (decided_by_tags l taken) ∙ e)).1
 
-  held_next : (l : SequenceLine) (w : Bounds) → w.bases ≡ min (bases_up_to l) limit → line_decided l taken ≡ false → w.held ≡ map extent_of (held_for_line l taken)
-      → filter (λ (s : Extent). nat_lt w.bases s.stop) w.held ≡ map extent_of (held_for_line (next (Some l)) taken)
+  held_next : (l : SequenceLine) (w : Bounds) → w.bases ≡ min (bases_up_to l) limit → line_decided l taken ≡ false → w.held ≡ held_for_line l taken
+      → filter (λ (r : Feature). nat_lt w.bases r.stop) w.held ≡ held_for_line (next (Some l)) taken
   held_next l w bases open_at held =
       let low : AllByRecursion (IsLow (bases_up_to l)) (own_records l.names taken) =
       subst (λ (rs : List Feature). AllByRecursion (IsLow (bases_up_to l)) rs) (sym (own_tagged l.names taken)) (own_low (bases_up_to l) (Some l.names) None taken (undecided_tags l open_at) range) in
-      ap (λ b. filter (λ (s : Extent). nat_lt b s.stop) w.held) bases
-      ∙ ap (λ (ss : List Extent). filter (λ (s : Extent). nat_lt (min (bases_up_to l) limit) s.stop) ss) held
+      ap (λ b. filter (λ (r : Feature). nat_lt b r.stop) w.held) bases
+      ∙ ap (filter (λ (r : Feature). nat_lt (min (bases_up_to l) limit) r.stop)) held
       ∙ held_on l.before (bases_up_to l) (bases_up_to (next (Some l))) (omega arith) (omega arith) (own_records l.names taken) low
 
-  pub held_further : (last : Option SequenceLine) (w : Bounds) → Counts last w → IsOpen last taken → w.held ≡ map extent_of (held_by last taken)
-      → filter (λ (s : Extent). nat_lt w.bases s.stop) w.held ≡ map extent_of (held_for_line (next last) taken)
+  pub held_further : (last : Option SequenceLine) (w : Bounds) → Counts last w → IsOpen last taken → w.held ≡ held_by last taken
+      → filter (λ (r : Feature). nat_lt w.bases r.stop) w.held ≡ held_for_line (next last) taken
   held_further last w counts open_at held = grind (arith, held_next)
 
   pub open_further : (last : Option SequenceLine) → IsOpen last taken → IsOpen (Some (next last)) taken
@@ -186,7 +181,7 @@ module _ (how : MaskHow) (full : Bool) (stage : MaskStage) (old : Masking) (s : 
   open_at : IsOpen (last_or None (given stage.inputs)) stage.inputs.taken
   open_at = s.stands.is_open asked.1
 
-  held_is : old.window.held ≡ map extent_of (held_by (last_or None (given stage.inputs)) stage.inputs.taken)
+  held_is : old.window.held ≡ held_by (last_or None (given stage.inputs)) stage.inputs.taken
   held_is = s.stands.holds (inl asked.1)
 
   -- with a line, before it waits or is written
@@ -196,7 +191,7 @@ module _ (how : MaskHow) (full : Bool) (stage : MaskStage) (old : Masking) (s : 
     bed_ended_is : moved.bed_ended ≡ stage.inputs.second_ended
     counts : Counts (Some item) moved.window
     name_is : moved.matched.name ≡ last_or None item.names
-    holds : moved.window.held ≡ map extent_of (held_for_line item stage.inputs.taken)
+    holds : moved.window.held ≡ held_for_line item stage.inputs.taken
     is_open : IsOpen (Some item) stage.inputs.taken
     owned : is_some (left_after item.names stage.inputs.taken) ≡ true
     header : is_sequence_header item.text ≡ true → item.before ≡ 0
@@ -237,7 +232,7 @@ module _ (how : MaskHow) (full : Bool) (stage : MaskStage) (old : Masking) (s : 
           bed_ended_is = s.stands.bed_ended_is;
           counts = record { before = omega arith; bases = omega arith };
           name_is = sym (last_more names n);
-          holds = sym (ap (λ (own : List Feature). map extent_of (filter (λ r. nat_lt r.start (bases_up_to header_item) && nat_lt header_item.before r.stop) own)) (none_own n names left.0 stage.inputs.taken left.1));
+          holds = sym (ap (filter (λ r. nat_lt r.start (bases_up_to header_item) && nat_lt header_item.before r.stop)) (none_own n names left.0 stage.inputs.taken left.1));
           is_open = inr (undecided_header n header_item names left.0 stage.inputs.taken refl left.1);
           owned = ap is_some (left_grows n names left.0 stage.inputs.taken left.1);
           header = λ e. refl;
