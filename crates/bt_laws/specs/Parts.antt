@@ -8,7 +8,7 @@ use Rattle.bt_lines.specs.declared.fault.Kind.{Kind}
 use Rattle.bt_bed.specs.model.Feature.{Feature}
 use Rattle.bt_bed.specs.model.BedLine.{record_of}
 use Rattle.bt_bed.specs.model.Order.{Order, is_among}
-use Rattle.bt_tool.specs.model.Written.{Report}
+use Rattle.bt_bed.specs.model.Meeting.{Report}
 use Rattle.bt_bed.specs.model.Genome.{Entry, genome_names}
 use Rattle.bt_runs.specs.declared.merge.merge_strand.MergeStrand.{MergeStrand}
 use Rattle.bt_sweep.specs.declared.hits.hit_rule.HitRule.{HitRule}

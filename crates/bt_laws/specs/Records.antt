@@ -107,17 +107,17 @@ first_lines_make_entries = (input : Input) (count : ℕ) (text : List ℕ)
     → IfErr (genome_of input (text_lines text)) (IsFaultBeyond count)
     → (entries : List Entry) × (genome_of input (take count (text_lines text)) ≡ Ok entries)
 
-module _ {A L F : Type 0} where
+module _ {A : Type 0} where
   -- a member that is decided early stays decided, and has the lines that it has in the end
-  abbrev pub StaysDecided : Rule A L F → Rule A L F → A → Type 0
+  abbrev pub StaysDecided : Rule A → Rule A → A → Type 0
   StaysDecided early late member = IsTrue (early.decided member)
       → IsTrue (late.decided member) × (early.lines member ≡ late.lines member)
 
 -- what is written early begins what is written in the end, whichever fault is reported
-abbrev pub EarlyLinesBegin : (A L F : Type 0) → Type 0
-EarlyLinesBegin A L F = (early late : Rule A L F) (members more : List A) (fault : Option F)
+abbrev pub EarlyLinesBegin : (A : Type 0) → Type 0
+EarlyLinesBegin A = (early late : Rule A) (members more : List A) (fault : Option FaultValue)
     → All (StaysDecided early late) members
-    → (rest : List L) × ((join_report late (members ++ more) fault).lines ≡ written early members ++ rest)
+    → (rest : List ℕ) × ((join_report late (members ++ more) fault).output ≡ written early members ++ rest)
 
 -- Laws of orders: of names, and of sorted records.
 

@@ -1,6 +1,6 @@
 -- The same bytes by another way.
 use Rattle.std.specs.Prelude.{◌≡◌, ◌≢◌, ◌==◌, ℕ, Bool, true, false, List, ◌∷◌, ◌++◌, Option, None, map, filter, nat_lt, IsPermutation, ◌≤◌, Some, [], flat_map, cond, min, decimal, replicate, ◌<◌, ◌||◌, ⊤, length, bytes_eq, codes}
-use Rattle.bt_bed.specs.model.Feature.{Feature, Interval}
+use Rattle.bt_bed.specs.model.Feature.{Feature, Interval, record_covers}
 use Rattle.bt_bed.specs.model.BedLine.{interval_lines, is_header, bed_text}
 use Rattle.bt_bed.specs.model.Genome.{Entry}
 use Rattle.bt_bed.specs.declared.record.strand.Strand.{Strand}
@@ -24,7 +24,7 @@ use Rattle.bt_lines.specs.model.Lines.{Handed, whole_text}
 use Rattle.bt_lines.specs.declared.fault.Input.TheVariants.{First, Second}
 use Rattle.bt_lines.specs.declared.reader.line.LineEnd.{LineEnd}
 use Rattle.bt_bed.specs.model.Good.{items_in, block_good}
-use Rattle.bt_seq.specs.model.Masked.{record_covers, names_of_sequences, own_records, SequenceLine, bases_up_to, sequence_good}
+use Rattle.bt_seq.specs.model.Masked.{names_of_sequences, own_records, SequenceLine, bases_up_to, sequence_good}
 use Rattle.bt_seq.specs.declared.mask.mask_how.MaskHow.{MaskHow}
 use Rattle.bt_seq.specs.declared.mask.mask_how.MaskHow.TheVariants.{Soft, Hard}
 

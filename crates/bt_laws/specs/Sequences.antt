@@ -8,7 +8,7 @@ use Rattle.bt_seq.specs.declared.sam.cigar.Operation.{Operation}
 use Rattle.bt_lines.specs.model.Lines.{is_number, whole_text}
 use Rattle.bt_bed.specs.model.Good.{Good, items_in, block_good}
 use Rattle.bt_bed.specs.calls.Orders.{AreInBlocks}
-use Rattle.bt_bed.specs.model.Meeting.{Rule, join_report, written, Met}
+use Rattle.bt_bed.specs.model.Meeting.{Rule, join_report, written, Report}
 use Rattle.bt_lines.specs.model.Fault.{FaultValue}
 use Rattle.bt_seq.specs.model.Masked.{line_decided, mask_rule, masked_line, SequenceLine, Block, blocks_by, names_behind, sequence_good, mask_met}
 use Rattle.bt_seq.specs.declared.mask.mask_how.MaskHow.{MaskHow}
@@ -76,7 +76,7 @@ operations_are_divided =
 -- Laws of masked sequences.
 
 -- what the first records of the second input make of the lines
-abbrev pub early_mask_rule : MaskHow → List Feature → Rule SequenceLine ℕ FaultValue
+abbrev pub early_mask_rule : MaskHow → List Feature → Rule SequenceLine
 early_mask_rule how records = record {
   decided = λ line. line_decided line records;
   lines = masked_line how records;
@@ -92,7 +92,7 @@ masked_are_a_prefix =
     (second : Good Feature) (seen more : List Feature) → items_in second ≡ seen ++ more
     → AreInBlocks (seen ++ more)
     → (rest : List ℕ)
-    × ((join_report (mask_rule how names second) (first ++ more_first) fault).lines
+    × ((join_report (mask_rule how names second) (first ++ more_first) fault).output
     ≡ written (early_mask_rule how seen) first ++ rest)
 
 -- if the second input has no fault, all lines are written, masked
@@ -101,7 +101,7 @@ faultless_are_masked =
     (how : MaskHow) (names : List (List ℕ)) (first : List SequenceLine) (fault : Option FaultValue)
     (second : Good Feature)
     → second.fault ≡ None
-    → (join_report (mask_rule how names second) first fault).lines
+    → (join_report (mask_rule how names second) first fault).output
     ≡ flat_map (masked_line how (items_in second)) first
 
 -- No prefix of the records taken decides all lines given: so none was taken after the first record
@@ -178,6 +178,6 @@ owners_were = (names more : List (List ℕ)) (records : List Feature) (rest : Li
 -- What maskfasta writes of two texts.
 
 -- the bytes that maskfasta writes of two whole texts, and the fault that it tells
-abbrev pub mask_texts : MaskHow → Bool → List ℕ → List ℕ → Met ℕ FaultValue
+abbrev pub mask_texts : MaskHow → Bool → List ℕ → List ℕ → Report
 mask_texts how full fasta bed =
     mask_met how (sequence_good full First (whole_text fasta)) (block_good Second (whole_text bed))

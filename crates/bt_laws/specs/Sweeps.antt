@@ -6,7 +6,7 @@ use Rattle.bt_lines.specs.declared.fault.Kind.TheVariants.{TooManyHeld}
 use Rattle.bt_bed.specs.model.Feature.{Feature, intervals_of}
 use Rattle.bt_bed.specs.model.BedLine.{fault_at_line}
 use Rattle.bt_bed.specs.model.Good.{Good, Member, items_in}
-use Rattle.bt_bed.specs.model.Meeting.{Rule, join_report, written, Met}
+use Rattle.bt_bed.specs.model.Meeting.{Rule, join_report, written, Report}
 use Rattle.bt_bed.specs.model.Order.{Order, rank_order}
 use Rattle.bt_bed.specs.calls.Orders.{IsTotal, ArePlaced}
 use Rattle.bt_sweep.specs.model.Hits.{decided, is_held, limited, decides, hits}
@@ -101,7 +101,7 @@ both_of_nothing = (both same_strand : Bool) (a b : Feature)
     ≡ hits (record { billionths = 0; both = false; same_strand = same_strand }) a b
 
 -- what the first good records of the second input make of them
-abbrev pub early_rule : Order → Shape → HitRule → List Feature → Rule Feature ℕ FaultValue
+abbrev pub early_rule : Order → Shape → HitRule → List Feature → Rule Feature
 early_rule order shape rule second =
     record (sweep_rule order shape rule second None) { decided = λ a. decided order a second }
 
@@ -117,7 +117,7 @@ written_are_a_prefix =
     → (rest : List ℕ)
     × ((join_report (sweep_rule order shape rule (second ++ more_second) second_fault)
     (first ++ more_first)
-    first_fault).lines ≡ written (early_rule order shape rule second) first ++ rest)
+    first_fault).output ≡ written (early_rule order shape rule second) first ++ rest)
 
 -- Small inputs, worked by hand: what is written and reported of them.
 
@@ -144,14 +144,14 @@ abbrev pub fault_behind_undecided : Type 0
 fault_behind_undecided = (fault : FaultValue)
     → intersect_met only_chr1 Cut any_overlap (two (at 0 10) (at 100 110) None)
     (two (at 2 4) (at 50 60) (Some fault))
-    ≡ record { lines = codes "chr1\t2\t4\n"; fault = Some fault }
+    ≡ record { output = codes "chr1\t2\t4\n"; fault = Some fault }
 
 -- if both have one and all records of the first are decided, that of the first is reported
 abbrev pub fault_of_first : Type 0
 fault_of_first = (fault other : FaultValue)
     → intersect_met only_chr1 Cut any_overlap (one (at 0 10) (Some fault))
     (two (at 2 4) (at 50 60) (Some other))
-    ≡ record { lines = codes "chr1\t2\t4\n"; fault = Some fault }
+    ≡ record { output = codes "chr1\t2\t4\n"; fault = Some fault }
 
 -- half of a record of ten bases is five
 abbrev pub half : HitRule
@@ -182,7 +182,7 @@ three first next last fault = record {
 }
 
 -- the meeting of two inputs on chr1, if at most `most` records of the second are held
-abbrev pub met_holding : Shape → ℕ → Good Feature → Good Feature → Met ℕ FaultValue
+abbrev pub met_holding : Shape → ℕ → Good Feature → Good Feature → Report
 met_holding shape most first second =
     intersect_met only_chr1 shape any_overlap first
     (limited only_chr1 (Some most) (items_in first) second)
@@ -192,7 +192,7 @@ met_holding shape most first second =
 abbrev pub third_is_too_many : Type 0
 third_is_too_many =
     met_holding Cut 2 (two (at 0 100) (at 50 60) None) (three (at 10 20) (at 55 58) (at 90 95) None)
-    ≡ record { lines = []; fault = Some (fault_at_line Second 3 TooManyHeld) }
+    ≡ record { output = []; fault = Some (fault_at_line Second 3 TooManyHeld) }
 
 abbrev pub three_are_enough : Type 0
 three_are_enough =
@@ -207,27 +207,27 @@ three_are_enough =
 abbrev pub decided_before_the_limit : Type 0
 decided_before_the_limit =
     met_holding Cut 1 (two (at 0 10) (at 20 100) None) (three (at 1 2) (at 30 40) (at 50 60) None)
-    ≡ record { lines = codes "chr1\t1\t2\n"; fault = Some (fault_at_line Second 3 TooManyHeld) }
+    ≡ record { output = codes "chr1\t1\t2\n"; fault = Some (fault_at_line Second 3 TooManyHeld) }
 
 -- none may be held: the first is too many, unless it ends before the undecided record,
 -- or decides it
 abbrev pub first_is_too_many : Type 0
 first_is_too_many =
     met_holding Cut 0 (two (at 0 10) (at 20 100) None) (three (at 1 2) (at 30 40) (at 50 60) None)
-    ≡ record { lines = []; fault = Some (fault_at_line Second 1 TooManyHeld) }
+    ≡ record { output = []; fault = Some (fault_at_line Second 1 TooManyHeld) }
 
 abbrev pub none_is_held : Type 0
 none_is_held =
     met_holding Pieces 0 (one (at 20 30) None) (two (at 0 5) (at 30 40) None)
-    ≡ record { lines = codes "chr1\t20\t30\n"; fault = None }
+    ≡ record { output = codes "chr1\t20\t30\n"; fault = None }
 
 -- a fault after the second of two records, of which one may be held, or two
 abbrev pub limit_before_the_fault : Type 0
 limit_before_the_fault = (fault : FaultValue)
     → met_holding Cut 1 (one (at 0 100) None) (two (at 10 20) (at 20 30) (Some fault))
-    ≡ record { lines = []; fault = Some (fault_at_line Second 2 TooManyHeld) }
+    ≡ record { output = []; fault = Some (fault_at_line Second 2 TooManyHeld) }
 
 abbrev pub fault_within_the_limit : Type 0
 fault_within_the_limit = (fault : FaultValue)
     → met_holding Cut 2 (one (at 0 100) None) (two (at 10 20) (at 20 30) (Some fault))
-    ≡ record { lines = []; fault = Some fault }
+    ≡ record { output = []; fault = Some fault }

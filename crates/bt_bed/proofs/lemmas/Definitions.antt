@@ -7,7 +7,8 @@ use Rattle.bt_bed.specs.model.Feature.{Feature, interval_of, intervals_of}
 use Rattle.bt_bed.specs.calls.Orders.{AreNonEmpty, good_are_placed, good_are_non_empty, AreInBlocks, IsBlockUpTo, good_are_in_blocks, IsTotal, IsUpTo, ArePlaced, IsPlacedBefore}
 use Rattle.bt_bed.specs.model.BedLine.{record_of}
 use Rattle.bt_bed.specs.model.Good.{good, Good, good_from, good_with, items_in, bed_format, line_says, locus_at, block_format}
-use Rattle.bt_bed.specs.model.Meeting.{Rule, Met, join_report, written}
+use Rattle.bt_lines.specs.model.Fault.{FaultValue}
+use Rattle.bt_bed.specs.model.Meeting.{Rule, Report, join_report, written}
 use Rattle.bt_bed.specs.model.Order.{Order}
 use Rattle.bt_bed.specs.model.Sorted.{Locus, Sorting, falls_in, sorting_of, block_sorting}
 use Rattle.bt_bed.proofs.lemmas.read.good.SaidLemmas.{said_features}
@@ -124,44 +125,44 @@ good_in_blocks input handed = (blocked_from input None (lines_handed handed)).bl
 
 -- Lemmas on the meeting of two inputs.
 
-met_either : {L F : Type 0} (b : Bool) (x y : Met L F) (lines : List L) → (b ≡ true → x.lines ≡ lines) → y.lines ≡ lines → (if b then x else y).lines ≡ lines
+met_either : (b : Bool) (x y : Report) (lines : List ℕ) → (b ≡ true → x.output ≡ lines) → y.output ≡ lines → (if b then x else y).output ≡ lines
 met_either b x y lines first second = grind arith
 
-module _ {A L F : Type 0} where
-  pub written_at : (rule : Rule A L F) (a : A) (members : List A) (d : Bool) → rule.decided a ≡ d → written rule (a ∷ members) ≡ cond d (rule.lines a ++ written rule members) []
+module _ {A : Type 0} where
+  pub written_at : (rule : Rule A) (a : A) (members : List A) (d : Bool) → rule.decided a ≡ d → written rule (a ∷ members) ≡ cond d (rule.lines a ++ written rule members) []
   written_at rule a members d e = grind arith
 
-  all_at : (rule : Rule A L F) (a : A) (members : List A) (d : Bool) → rule.decided a ≡ d → (d && list_all rule.decided members) ≡ true → (list_all rule.decided members ≡ true → flat_map rule.lines members ≡ written rule members)
+  all_at : (rule : Rule A) (a : A) (members : List A) (d : Bool) → rule.decided a ≡ d → (d && list_all rule.decided members) ≡ true → (list_all rule.decided members ≡ true → flat_map rule.lines members ≡ written rule members)
       → flat_map rule.lines (a ∷ members) ≡ written rule (a ∷ members)
   all_at rule a members d e some rest = grind arith
 
   -- if each member is decided, the lines of all are those before the first that isn't
-  pub all_written : (rule : Rule A L F) (members : List A) → list_all rule.decided members ≡ true → flat_map rule.lines members ≡ written rule members
+  pub all_written : (rule : Rule A) (members : List A) → list_all rule.decided members ≡ true → flat_map rule.lines members ≡ written rule members
   all_written rule [] e = refl
   all_written rule (a ∷ members) e = all_at rule a members (rule.decided a) refl e (all_written rule members)
 
   -- the lines that are written are those of the members before the first that isn't decided
-  pub met_lines : (rule : Rule A L F) (members : List A) (fault : Option F) → (join_report rule members fault).lines ≡ written rule members
-  met_lines rule members fault = met_either (list_all rule.decided members) _ _ _ (all_written rule members) refl
+  pub met_output : (rule : Rule A) (members : List A) (fault : Option FaultValue) → (join_report rule members fault).output ≡ written rule members
+  met_output rule members fault = met_either (list_all rule.decided members) _ _ _ (all_written rule members) refl
 
-  pub met_fault_all : (rule : Rule A L F) (members : List A) (fault : Option F) → list_all rule.decided members ≡ true → (join_report rule members fault).fault ≡ option_or fault rule.last
+  pub met_fault_all : (rule : Rule A) (members : List A) (fault : Option FaultValue) → list_all rule.decided members ≡ true → (join_report rule members fault).fault ≡ option_or fault rule.last
   met_fault_all rule members fault e = grind arith
 
-  pub met_fault_stop : (rule : Rule A L F) (members : List A) (fault : Option F) → list_all rule.decided members ≡ false → (join_report rule members fault).fault ≡ rule.fault
+  pub met_fault_stop : (rule : Rule A) (members : List A) (fault : Option FaultValue) → list_all rule.decided members ≡ false → (join_report rule members fault).fault ≡ rule.fault
   met_fault_stop rule members fault e = grind arith
 
   -- up to the first that isn't decided
-  pub written_stop : (rule : Rule A L F) (xs : List A) (a : A) (ys : List A) → list_all rule.decided xs ≡ true → rule.decided a ≡ false → written rule (xs ++ a ∷ ys) ≡ flat_map rule.lines xs
+  pub written_stop : (rule : Rule A) (xs : List A) (a : A) (ys : List A) → list_all rule.decided xs ≡ true → rule.decided a ≡ false → written rule (xs ++ a ∷ ys) ≡ flat_map rule.lines xs
   written_stop rule [] a ys all e = written_at rule a ys false e
   written_stop rule (x ∷ xs) a ys all e =
       let parts = and_parts (rule.decided x) (list_all rule.decided xs) all in
       written_at rule x (xs ++ a ∷ ys) true parts.0 ∙ ap (λ l. rule.lines x ++ l) (written_stop rule xs a ys parts.1 e)
 
-  pub all_stop : (rule : Rule A L F) (xs : List A) (a : A) (ys : List A) → rule.decided a ≡ false → list_all rule.decided (xs ++ a ∷ ys) ≡ false
+  pub all_stop : (rule : Rule A) (xs : List A) (a : A) (ys : List A) → rule.decided a ≡ false → list_all rule.decided (xs ++ a ∷ ys) ≡ false
   all_stop rule xs a ys e = list_all-append rule.decided xs (a ∷ ys) ∙ and_right (list_all rule.decided xs) (rule.decided a && list_all rule.decided ys) (and_left (rule.decided a) (list_all rule.decided ys) e)
 
   -- what is written of decided members comes first
-  pub written_past : (rule : Rule A L F) (xs ys : List A) → list_all rule.decided xs ≡ true → written rule (xs ++ ys) ≡ flat_map rule.lines xs ++ written rule ys
+  pub written_past : (rule : Rule A) (xs ys : List A) → list_all rule.decided xs ≡ true → written rule (xs ++ ys) ≡ flat_map rule.lines xs ++ written rule ys
   written_past rule [] ys all = refl
   written_past rule (x ∷ xs) ys all =
       let parts = and_parts (rule.decided x) (list_all rule.decided xs) all in

@@ -1,5 +1,5 @@
 -- Intervals and features: where they lie, their strands and bases.
-use Rattle.std.specs.Prelude.{ℕ, List, [], ◌∷◌, cond, bytes_eq, Option, Some, None, map, ◌-◌, max, min, Bool, true, false}
+use Rattle.std.specs.Prelude.{ℕ, List, [], ◌∷◌, cond, bytes_eq, Option, Some, None, map, ◌-◌, max, min, Bool, true, false, nat_le, nat_lt, ◌&&◌}
 use Rattle.bt_bed.specs.declared.record.strand.Strand.{Strand}
 use Rattle.bt_bed.specs.declared.record.strand.Strand.TheVariants.{Plus, Minus, Dot}
 
@@ -72,6 +72,14 @@ length_of r = r.stop - r.start
 -- lie on one chromosome and this is above 0
 abbrev pub shared : Interval → Interval → ℕ
 shared a b = cond (bytes_eq a.chrom b.chrom) (min a.stop b.stop - max a.start b.start) 0
+
+-- whether an interval of a chromosome has the position
+abbrev pub covers : ℕ → Span → Bool
+covers p s = nat_le s.start p && nat_lt p s.stop
+
+-- whether a feature has it, on its chromosome
+abbrev pub record_covers : ℕ → Feature → Bool
+record_covers p r = covers p (span_of (interval_of r))
 
 -- Strands of features (UCSC BED description, field strand).
 

@@ -18,16 +18,16 @@ pub record Locus : Type 0 where
 abbrev pub locus_of : Interval → Locus
 locus_of r = record { chrom = r.chrom; start = r.start }
 
--- whether a start lies below another, once their chromosomes are compared
-abbrev pub is_below_at : Ordering → ℕ → ℕ → Bool
-is_below_at Less start other = true
-is_below_at Equal start other = nat_lt start other
-is_below_at Greater start other = false
+-- whether something comes first, once its chromosome is compared with another's: on the same one, whether it does there
+abbrev pub comes_first : Ordering → Bool → Bool
+comes_first Less there = true
+comes_first Equal there = there
+comes_first Greater there = false
 
 -- whether a place lies below another
 abbrev pub is_below : Order → Locus → Locus → Bool
 is_below order place other =
-    is_below_at (order.compare place.chrom other.chrom) place.start other.start
+    comes_first (order.compare place.chrom other.chrom) (nat_lt place.start other.start)
 
 -- How the records of an input are sorted: by chromosome, and on each of them by start.
 

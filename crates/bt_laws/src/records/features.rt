@@ -39,8 +39,8 @@ pub fn written_records_are_read_back()
 
 /// When two inputs meet, what is written early begins what is written in the end, whichever fault is
 /// reported.
-pub fn early_lines_begin_the_whole<A, L, F>()
-    ensures { EarlyLinesBegin A L F }
+pub fn early_lines_begin_the_whole<A>()
+    ensures { EarlyLinesBegin A }
 {}
 
 /// What small texts say.

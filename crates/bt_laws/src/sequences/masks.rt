@@ -84,49 +84,49 @@ pub fn held_records_mask_alone()
 #[tactic(auto, unfolding(bt_bed::specs::model::Good::good_from, bt_bed::specs::model::Good::line_says, bt_bed::specs::model::BedLine::record_of, bt_lines::specs::model::Lines::lines_from, bt_lines::specs::model::Lines::value_of))]
 pub fn masked_small_texts()
     ensures over_two_lines { mask_texts (MaskHow.Hard 78) false (codes ">s d\nACGTAC\nGTAC") (codes "s\t4\t8\n")
-        ≡ record { lines = codes ">s d\nACGTNN\nNNAC"; fault = None } }
+        ≡ record { output = codes ">s d\nACGTNN\nNNAC"; fault = None } }
     ensures soft { mask_texts MaskHow.Soft false (codes ">s d\nACGTAC\nGTAC") (codes "s\t4\t8\n")
-        ≡ record { lines = codes ">s d\nACGTac\ngtAC"; fault = None } }
+        ≡ record { output = codes ">s d\nACGTac\ngtAC"; fault = None } }
     ensures other_byte { mask_texts (MaskHow.Hard 120) false (codes ">s d\nACGTAC\nGTAC") (codes "s\t4\t8\n")
-        ≡ record { lines = codes ">s d\nACGTxx\nxxAC"; fault = None } }
+        ≡ record { output = codes ">s d\nACGTxx\nxxAC"; fault = None } }
     ensures past_the_end { mask_texts (MaskHow.Hard 78) false (codes ">s\nACGT\n") (codes "s\t2\t20\n")
-        ≡ record { lines = codes ">s\nACNN\n"; fault = None } }
+        ≡ record { output = codes ">s\nACNN\n"; fault = None } }
     ensures behind_the_end { mask_texts (MaskHow.Hard 78) false (codes ">s\nACGT\n") (codes "s\t10\t20\n")
-        ≡ record { lines = codes ">s\nACGT\n"; fault = None } }
+        ≡ record { output = codes ">s\nACGT\n"; fault = None } }
     ensures line_ends { mask_texts (MaskHow.Hard 78) false (codes "\r\n>s\r\nAC\r\n\nGT\r") (codes "s\t1\t3\n")
-        ≡ record { lines = codes "\r\n>s\r\nAN\r\n\nNT\r"; fault = None } }
+        ≡ record { output = codes "\r\n>s\r\nAN\r\n\nNT\r"; fault = None } }
     ensures full_header { mask_texts (MaskHow.Hard 78) true (codes ">s d\nACGT\n") (codes "s d\t0\t1\n")
-        ≡ record { lines = codes ">s d\nNCGT\n"; fault = None } }
+        ≡ record { output = codes ">s d\nNCGT\n"; fault = None } }
 {}
 
 /// Which sequence is masked if several have a name, or a block has none.
 #[tactic(auto, unfolding(bt_bed::specs::model::Good::good_from, bt_bed::specs::model::Good::line_says, bt_bed::specs::model::BedLine::record_of, bt_lines::specs::model::Lines::lines_from, bt_lines::specs::model::Lines::value_of))]
 pub fn masked_sequences_of_blocks()
     ensures each_in_turn { mask_texts (MaskHow.Hard 78) false (codes ">s\nAAAA\n>t\nCCCC\n>s\nGGGG\n") (codes "s\t0\t1\nt\t0\t1\ns\t0\t1\n")
-        ≡ record { lines = codes ">s\nNAAA\n>t\nNCCC\n>s\nNGGG\n"; fault = None } }
+        ≡ record { output = codes ">s\nNAAA\n>t\nNCCC\n>s\nNGGG\n"; fault = None } }
     ensures second_of_a_name { mask_texts (MaskHow.Hard 78) false (codes ">s\nAAAA\n>t\nCCCC\n>s\nGGGG\n") (codes "t\t0\t1\ns\t0\t1\n")
-        ≡ record { lines = codes ">s\nAAAA\n>t\nNCCC\n>s\nNGGG\n"; fault = None } }
+        ≡ record { output = codes ">s\nAAAA\n>t\nNCCC\n>s\nNGGG\n"; fault = None } }
     ensures across_lines { mask_texts (MaskHow.Hard 78) false (codes ">s\nAC\nGT\n>t\nTTTT\n") (codes "s\t1\t3\nt\t0\t1\n")
-        ≡ record { lines = codes ">s\nAN\nNT\n>t\nNTTT\n"; fault = None } }
+        ≡ record { output = codes ">s\nAN\nNT\n>t\nNTTT\n"; fault = None } }
     ensures earlier_name { mask_texts (MaskHow.Hard 78) false (codes ">s\nAA\n>t\nCC\n>u\n") (codes "t\t0\t1\ns\t0\t1\nu\t0\t1\n")
-        ≡ record { lines = codes ">s\nAA\n>t\nNC\n>u\n"; fault = Some (fault_at_line Input.Second 2 Kind.NoSequence) } }
+        ≡ record { output = codes ">s\nAA\n>t\nNC\n>u\n"; fault = Some (fault_at_line Input.Second 2 Kind.NoSequence) } }
     ensures empty_name { mask_texts (MaskHow.Hard 78) false (codes ">\nAA\n>t") (codes "t\t0\t1\n")
-        ≡ record { lines = codes ">\nAA\n>t"; fault = None } }
+        ≡ record { output = codes ">\nAA\n>t"; fault = None } }
 {}
 
 /// What is written before a fault.
 #[tactic(auto, unfolding(bt_bed::specs::model::Good::good_from, bt_bed::specs::model::Good::line_says, bt_bed::specs::model::BedLine::record_of, bt_lines::specs::model::Lines::lines_from, bt_lines::specs::model::Lines::value_of))]
 pub fn masked_lines_before_a_fault()
     ensures no_sequence { mask_texts (MaskHow.Hard 78) false (codes ">s\nACGT\n") (codes "t\t0\t2\n")
-        ≡ record { lines = codes ">s\nACGT\n"; fault = Some (fault_at_line Input.Second 1 Kind.NoSequence) } }
+        ≡ record { output = codes ">s\nACGT\n"; fault = Some (fault_at_line Input.Second 1 Kind.NoSequence) } }
     ensures before_a_fault { mask_texts (MaskHow.Hard 78) false (codes ">s\nAAAA\n") (codes "t\t0\t2\nt\tx\t5\n")
-        ≡ record { lines = codes ">s\nAAAA\n"; fault = Some (fault_at_line Input.Second 1 Kind.NoSequence) } }
+        ≡ record { output = codes ">s\nAAAA\n"; fault = Some (fault_at_line Input.Second 1 Kind.NoSequence) } }
     ensures no_header { mask_texts (MaskHow.Hard 78) false (codes "ACGT\n>s\n") []
-        ≡ record { lines = []; fault = Some (fault_at_line Input.First 1 Kind.TextBeforeHeader) } }
+        ≡ record { output = []; fault = Some (fault_at_line Input.First 1 Kind.TextBeforeHeader) } }
     ensures out_of_order { mask_texts (MaskHow.Hard 78) false (codes ">s\nAAAA\n") (codes "s\t3\t4\ns\t1\t2\n")
-        ≡ record { lines = codes ">s\n"; fault = Some (fault_at_line Input.Second 2 Kind.OutOfOrder) } }
+        ≡ record { output = codes ">s\n"; fault = Some (fault_at_line Input.Second 2 Kind.OutOfOrder) } }
     ensures bad_start { mask_texts (MaskHow.Hard 78) false (codes ">s\nAAAA\nCCCC\n") (codes "s\t0\t1\ns\tx\t2\n")
-        ≡ record { lines = codes ">s\n"; fault = Some (fault_at_line Input.Second 2 Kind.BadStart) } }
+        ≡ record { output = codes ">s\n"; fault = Some (fault_at_line Input.Second 2 Kind.BadStart) } }
     ensures first_line { mask_texts (MaskHow.Hard 78) false (codes ">s\nAAAA\n") (codes "s\tx\t2\n")
-        ≡ record { lines = []; fault = Some (fault_at_line Input.Second 1 Kind.BadStart) } }
+        ≡ record { output = []; fault = Some (fault_at_line Input.Second 1 Kind.BadStart) } }
 {}

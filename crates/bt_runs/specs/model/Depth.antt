@@ -1,11 +1,11 @@
 -- What `bedtools genomecov` gives: the intervals of equal depth.
-use Rattle.std.specs.Prelude.{ℕ, ◌++◌, Bool, true, cond, List, [], Option, Some, None, ◌&&◌, ◌||◌, nat_le, nat_lt, length, map, filter, flat_map, codes, decimal}
+use Rattle.std.specs.Prelude.{ℕ, ◌++◌, Bool, true, cond, List, [], Option, Some, None, ◌&&◌, ◌||◌, nat_lt, length, map, filter, flat_map, codes, decimal}
 use Rattle.std.specs.Option.{option_map_or}
-use Rattle.bt_bed.specs.model.Feature.{Feature, intervals_of, Interval, Span, last_of, spans_on, is_strand}
+use Rattle.bt_bed.specs.model.Feature.{Feature, intervals_of, Interval, Span, last_of, spans_on, is_strand, covers}
 use Rattle.bt_bed.specs.model.Genome.{Entry, genome_names}
 use Rattle.bt_bed.specs.model.Order.{rank_order}
 use Rattle.bt_bed.specs.declared.record.strand.Strand.{Strand}
-use Rattle.bt_runs.specs.model.Gaps.{is_over_at}
+use Rattle.bt_bed.specs.model.Sorted.{comes_first}
 use Rattle.bt_bed.specs.model.Levels.{Level, OneList}
 use Rattle.bt_bed.proofs.lemmas.LevelScans.{one_list}
 
@@ -20,10 +20,6 @@ levels_of value size = (the_levels value size).levels
 -- What `bedtools genomecov` gives with -bg: the intervals of equal depth above 0 of each
 -- chromosome, in the order of the genome file. With -bga it gives those of depth 0 too (bedtools
 -- manual, genomecov, options -bg, -bga and -strand).
-
--- whether a span covers a position
-abbrev pub covers : ℕ → Span → Bool
-covers p s = nat_le s.start p && nat_lt p s.stop
 
 -- the depth at a position: how many of the spans cover it
 abbrev pub depth_at : List Span → ℕ → ℕ
@@ -83,7 +79,7 @@ depth_lines intervals = flat_map depth_line intervals
 -- may begin there, at an equal depth
 abbrev pub is_ended_by : List (List ℕ) → Interval → DepthInterval → Bool
 is_ended_by names last item =
-    is_over_at ((rank_order names).compare item.chrom last.chrom) (nat_lt item.stop last.start)
+    comes_first ((rank_order names).compare item.chrom last.chrom) (nat_lt item.stop last.start)
 
 -- the intervals that are settled after the records
 unfoldable pub settled_depths : Bool → Option Strand → List Entry → List Feature

@@ -1,13 +1,11 @@
 -- What `bedtools complement` gives: the parts of each chromosome that no feature covers, in the
 -- order of the genome file. With -L it gives only those of chromosomes that
 -- have records (bedtools manual, complement).
-use Rattle.std.specs.Prelude.{ℕ, Bool, true, false, not, ◌||◌, List, [], map, filter, flat_map, nat_le}
+use Rattle.std.specs.Prelude.{ℕ, Bool, not, ◌||◌, List, [], map, filter, flat_map, nat_le}
 use Rattle.std.specs.Option.{option_map_or}
-use Rattle.std.specs.declared.cmp.Ordering.{Ordering}
-use Rattle.std.specs.declared.cmp.Ordering.TheVariants.{Less, Equal, Greater}
 use Rattle.bt_bed.specs.model.Feature.{Feature, intervals_of, Interval, Span, last_of, placed_on, spans_on}
 use Rattle.bt_bed.specs.model.Genome.{Entry, genome_names}
-use Rattle.bt_bed.specs.model.Sorted.{has_records}
+use Rattle.bt_bed.specs.model.Sorted.{comes_first, has_records}
 use Rattle.bt_bed.specs.model.Order.{rank_order}
 use Rattle.bt_runs.specs.model.Merged.{is_covered, stretches_of}
 
@@ -30,16 +28,11 @@ complement limit entries records =
     flat_map (gaps_on (intervals_of records))
     (filter (is_asked limit (intervals_of records)) entries)
 
--- Whether a gap is settled, once its chromosome is compared with that of the last record. It is if it
--- comes before, or if it is the same and the gap ends by the record's start.
-abbrev pub is_over_at : Ordering → Bool → Bool
-is_over_at Less ends = true
-is_over_at Equal ends = ends
-is_over_at Greater ends = false
-
+-- Whether a gap is settled by the last record. It is if its chromosome comes before that of the record, or if it is the same
+-- and the gap ends by the record's start.
 abbrev pub is_over : List (List ℕ) → Interval → Interval → Bool
 is_over names last gap =
-    is_over_at ((rank_order names).compare gap.chrom last.chrom) (nat_le gap.stop last.start)
+    comes_first ((rank_order names).compare gap.chrom last.chrom) (nat_le gap.stop last.start)
 
 -- the gaps that are settled after the records
 unfoldable pub settled_gaps : Bool → List Entry → List Feature → List Interval

@@ -1,6 +1,6 @@
 -- What `bedtools merge` gives, with its options.
 use Rattle.std.specs.Prelude.{ℕ, zero, suc, ◌+◌, Bool, false, not, ◌&&◌, ◌||◌, List, [], ◌∷◌, map, filter, flat_map, max, nat_le, nat_lt, bytes_eq, true, Option, Some, None, if◌then◌else◌, ◌++◌}
-use Rattle.bt_bed.specs.model.Feature.{Interval, Span, spans_on, placed_on, Feature, intervals_of, is_strand, last_of}
+use Rattle.bt_bed.specs.model.Feature.{Interval, Span, spans_on, placed_on, Feature, intervals_of, is_strand, last_of, covers}
 use Rattle.bt_bed.specs.model.Positions.{OneSpanList}
 use Rattle.bt_bed.proofs.lemmas.StretchScans.{one_span_list}
 use Rattle.bt_bed.specs.declared.record.strand.Strand.{Strand}
@@ -28,7 +28,7 @@ some_below (suc n) test = test n || some_below n test
 -- whether the position lies in one of the spans
 abbrev pub is_covered : List Span → ℕ → Bool
 is_covered [] p = false
-is_covered (s ∷ ss) p = (nat_le s.start p && nat_lt p s.stop) || is_covered ss p
+is_covered (s ∷ ss) p = covers p s || is_covered ss p
 
 -- whether the position is bridged: some covered position up to it has a covered position near it,
 -- at or past the position

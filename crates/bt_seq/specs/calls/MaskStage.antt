@@ -3,7 +3,7 @@ use Rattle.std.specs.Prelude.{◌≡◌, ℕ, ◌&&◌, not, Bool, true, false, 
 use Rattle.std.specs.List.{last_or, list_all}
 use Rattle.bt_bed.specs.model.Feature.{Feature}
 use Rattle.bt_bed.specs.model.BedLine.{fault_at_line}
-use Rattle.bt_seq.specs.model.Masked.{is_sequence_header, line_decided, is_unnamed, Reached, SequenceLine, bases_up_to, masked_from, masked_line, line_says, masked_text, no_sequence, own_records}
+use Rattle.bt_seq.specs.model.Masked.{is_sequence_header, line_decided, is_unnamed, Reached, SequenceLine, bases_up_to, masked_from, masked_line, sequence_says, masked_text, no_sequence, own_records}
 use Rattle.bt_seq.specs.calls.MaskState.{left_after}
 use Rattle.bt_lines.specs.model.Lines.{TextLine}
 use Rattle.bt_lines.specs.declared.fault.Input.TheVariants.{Second}
@@ -113,7 +113,7 @@ abbrev pub SayEach : Bool → Reached → List TextLine → List SequenceLine �
 SayEach full reached [] items = items ≡ []
 SayEach full reached (line ∷ lines) [] = ⊥
 SayEach full reached (line ∷ lines) (item ∷ items) =
-    (line_says full reached line ≡ Ok (Some item))
+    (sequence_says full reached line ≡ Ok (Some item))
     × SayEach full (reached_by (Some item)) lines items
 
 -- the records that were seen: those taken, and the one ahead

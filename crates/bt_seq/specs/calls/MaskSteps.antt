@@ -8,7 +8,7 @@ use Rattle.bt_bed.specs.calls.Stage.{given}
 use Rattle.bt_seq.specs.calls.MaskStage.{MaskStage, held_by, reached_by, want_at, is_written_at_once, reached, with_bed_ended, with_decided, with_line, with_record, LineBefore, GoesOn, PassesTextLines, MayComeNext, held_for_line}
 use Rattle.bt_seq.specs.calls.MaskState.{Masking, Waiting, left_after}
 use Rattle.bt_seq.specs.inside.Masking.{KnowsStage}
-use Rattle.bt_seq.specs.model.Masked.{line_decided, is_unnamed, SequenceLine, is_sequence_header, masked_line, line_says}
+use Rattle.bt_seq.specs.model.Masked.{line_decided, is_unnamed, SequenceLine, is_sequence_header, masked_line, sequence_says}
 use Rattle.bt_seq.specs.declared.mask.mask_how.MaskHow.{MaskHow}
 use Rattle.bt_lines.specs.model.Fault.{FaultValue}
 use Rattle.bt_lines.specs.calls.Faults.{no_memory}
@@ -100,7 +100,7 @@ module _ (how : MaskHow) (full : Bool) (stage : MaskStage) (line : TextLine) (ou
   -- it is a line of a sequence, or a blank one before the first
   pub record TakesNextLine (new : Masking) (grown : Output) : Type 0 where
     pub item : SequenceLine
-    pub says : line_says full (reached stage) line ≡ Ok (Some item)
+    pub says : sequence_says full (reached stage) line ≡ Ok (Some item)
     pub stands : MaskMovesTo how full (with_line stage item) new
     pub puts : Grown out (bytes_with how stage item) grown
     -- by the law that decided lines stay, said here for the caller
@@ -109,7 +109,7 @@ module _ (how : MaskHow) (full : Bool) (stage : MaskStage) (line : TextLine) (ou
   -- it is at fault
   pub record RefusesLine (fault : FaultValue) (grown : Output) : Type 0 where
     pub kind : Kind
-    pub says : line_says full (reached stage) line ≡ Err kind
+    pub says : sequence_says full (reached stage) line ≡ Err kind
     pub is : fault ≡ fault_at_line First line.number kind
     pub same_output : grown ≡ out
 
@@ -117,7 +117,7 @@ module _ (how : MaskHow) (full : Bool) (stage : MaskStage) (line : TextLine) (ou
   -- for it, which it may need
   pub record FailsWithLine (fault : FaultValue) (grown : Output) : Type 0 where
     pub item : SequenceLine
-    pub says : line_says full (reached stage) line ≡ Ok (Some item)
+    pub says : sequence_says full (reached stage) line ≡ Ok (Some item)
     pub fails : FailsToAdd out (bytes_with how stage item) fault grown
         ⊎ ((fault ≡ no_memory) × (grown ≡ out) × (may_need_memory stage item ≡ true))
     pub settled : IsSettled how stage item

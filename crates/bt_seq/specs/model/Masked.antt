@@ -2,10 +2,10 @@
 use Rattle.std.specs.Prelude.{◌++◌, ℕ, Bool, true, false, List, [], ◌∷◌, Option, Some, None, bytes_eq, flat_map, nat_le, option_and_then, if◌then◌else◌, ◌+◌, ◌==◌, ◌||◌, not, drop, length, Result, Ok, Err, suc, ◌&&◌, find, is_none, nat_lt}
 use Rattle.std.specs.List.{last_or, list_any, take_while}
 use Rattle.std.specs.Option.{option_map_or}
-use Rattle.bt_bed.specs.model.Feature.{Feature}
-use Rattle.bt_bed.specs.model.BedLine.{fault_at_line}
+use Rattle.bt_bed.specs.model.Feature.{Feature, record_covers}
+use Rattle.bt_bed.specs.model.BedLine.{fault_at_line, first_word}
 use Rattle.bt_bed.specs.model.Good.{Format, Good, good_handed, Member, items_in, or_else}
-use Rattle.bt_bed.specs.model.Meeting.{Met, Rule, join_report}
+use Rattle.bt_bed.specs.model.Meeting.{Report, Rule, join_report}
 use Rattle.bt_lines.specs.model.Lines.{Handed, TextLine, end_bytes}
 use Rattle.bt_lines.specs.declared.fault.Input.{Input}
 use Rattle.bt_lines.specs.declared.fault.Kind.{Kind}
@@ -101,15 +101,11 @@ abbrev pub is_sequence_header : List ℕ → Bool
 is_sequence_header [] = false
 is_sequence_header (byte ∷ bytes) = byte == 62
 
--- whether a byte ends a name: a space or a tab
-abbrev pub ends_name : ℕ → Bool
-ends_name byte = (byte == 32) || (byte == 9)
-
 -- the name that a header gives: the text after `>` up to the first space or tab, or all of it
 -- if the full header is requested
 abbrev pub name_in : Bool → List ℕ → List ℕ
 name_in full text =
-    if full then drop 1 text else take_while (λ byte. not (ends_name byte)) (drop 1 text)
+    if full then drop 1 text else first_word (drop 1 text)
 
 -- how many bases a text holds
 abbrev pub bases_in : List ℕ → ℕ
@@ -148,8 +144,8 @@ may_stand [] (byte ∷ bytes) = false
 may_stand (name ∷ names) text = true
 
 -- what a line says after those before it
-abbrev pub line_says : Bool → Reached → TextLine → Result (Option SequenceLine) Kind
-line_says full reached line =
+abbrev pub sequence_says : Bool → Reached → TextLine → Result (Option SequenceLine) Kind
+sequence_says full reached line =
     if is_sequence_header line.text then Ok (Some (header_behind full reached line))
     else (if may_stand reached.names line.text then Ok (Some (line_behind reached line))
     else Err TextBeforeHeader)
@@ -158,7 +154,7 @@ line_says full reached line =
 abbrev pub sequence_format : Bool → Format SequenceLine Reached
 sequence_format full = record {
   begin = record { names = []; bases = 0 };
-  says = line_says full;
+  says = sequence_says full;
   after = λ reached line. record { names = line.names; bases = bases_up_to line };
 }
 
@@ -173,10 +169,6 @@ sequence_good full input handed = good_handed (sequence_format full) input hande
 abbrev pub masked_byte : MaskHow → ℕ → ℕ
 masked_byte Soft byte = if is_ascii_uppercase byte then byte + 32 else byte
 masked_byte (Hard mask) byte = mask
-
--- whether a record covers a position
-abbrev pub record_covers : ℕ → Feature → Bool
-record_covers position r = nat_le r.start position && nat_lt position r.stop
 
 -- bases from this position on, of which those that a record covers are replaced
 abbrev pub masked_from : MaskHow → List Feature → ℕ → List ℕ → List ℕ
@@ -224,7 +216,7 @@ no_sequence names members =
 
 -- What the good records of the second input, and its fault, make of the lines of the first. At the
 -- end its first block without a sequence is reported, before its fault.
-abbrev pub mask_rule : MaskHow → List (List ℕ) → Good Feature → Rule SequenceLine ℕ FaultValue
+abbrev pub mask_rule : MaskHow → List (List ℕ) → Good Feature → Rule SequenceLine
 mask_rule how names second = record {
   decided = λ line. is_none second.fault || line_decided line (items_in second);
   lines = masked_line how (items_in second);
@@ -233,6 +225,6 @@ mask_rule how names second = record {
 }
 
 -- the bytes that maskfasta writes of two inputs, and the fault that it tells
-abbrev pub mask_met : MaskHow → Good SequenceLine → Good Feature → Met ℕ FaultValue
+abbrev pub mask_met : MaskHow → Good SequenceLine → Good Feature → Report
 mask_met how first second =
     join_report (mask_rule how (names_of_sequences (items_in first)) second) (items_in first) first.fault

@@ -2,7 +2,8 @@
 
 ghost use Rattle.std.specs.Prelude.{◌≡◌, ◌≤◌, length, not, take, true};
 ghost use Rattle.std.specs.List.{take_while};
-ghost use Rattle.bt_seq.specs.model.Masked.{ends_name, is_sequence_header, name_in};
+ghost use Rattle.bt_bed.specs.model.BedLine.{ends_word};
+ghost use Rattle.bt_seq.specs.model.Masked.{is_sequence_header, name_in};
 
 use bt_lines::length_before;
 
@@ -29,7 +30,7 @@ pub(crate) fn name_in(full: bool, text: &[u8]) -> &[u8]
 #[tactic(auto, using(crate::proofs::lemmas::mask::bases::MaskingLemmas::name_within))]
 fn name_length(text: &[u8]) -> usize
     ensures within { result ≤ length text.now }
-    ensures name { take result text.now ≡ take_while (λ byte. not (ends_name byte)) text.now }
+    ensures name { take result text.now ≡ take_while (λ byte. not (ends_word byte)) text.now }
 {
     let end = length_before(b' ', text);
     length_before(b'\t', &text[..end])

@@ -3,7 +3,8 @@
 
 ghost use Rattle.std.specs.Prelude.{◌≡◌, ◌+◌, ◌<◌, ◌^◌, ◌∷◌, [], IfOk, length};
 ghost use Rattle.std.specs.List.{list_any};
-ghost use Rattle.bt_seq.specs.model.Masked.{record_covers, masked_from};
+ghost use Rattle.bt_bed.specs.model.Feature.{record_covers};
+ghost use Rattle.bt_seq.specs.model.Masked.{masked_from};
 
 use crate::mask::mask_how::{MaskHow, mask_byte};
 use bt_bed::Rec;

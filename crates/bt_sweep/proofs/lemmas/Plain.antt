@@ -1,10 +1,10 @@
 -- Lemmas on the plain program.
 use Rattle.bt_lines.proofs.Std.{◌≡◌, ◌⊎◌, ℕ, List, [], ◌∷◌, ◌++◌, refl, sym, ap, ◌∙◌, arith, append_assoc, decimal, flat_map, length, ◌+◌, ◌-◌, ◌<◌, ◌≤◌, le-leb, suc, Bool, not, ◌&&◌, ◌||◌, cond, map, list_any, reverse-append}
-use Rattle.bt_bed.specs.model.Feature.{Feature, Span}
+use Rattle.bt_bed.specs.model.Feature.{Feature, Span, record_covers}
 use Rattle.bt_bed.specs.calls.Stretches.{stretches_from, with_position}
 use Rattle.bt_bed.specs.model.BedLine.{bed_text}
 use Rattle.bt_sweep.specs.model.Hits.{hits_among, hits}
-use Rattle.bt_sweep.specs.model.Lines.{hit_line, line_with, lines_for, piece_line, pieces, has_position, is_left}
+use Rattle.bt_sweep.specs.model.Lines.{hit_line, line_with, lines_for, piece_line, pieces, is_left}
 use Rattle.bt_sweep.specs.declared.hits.hit_rule.HitRule.{HitRule}
 use Rattle.bt_sweep.specs.declared.output.shape.Shape.{Shape}
 use Rattle.bt_sweep.specs.declared.output.shape.Shape.TheVariants.{Cut, OrigA, CutAndB, OrigBoth, Overlap, Once, Missing, Count, Pieces, Whole}
@@ -93,10 +93,10 @@ unfolding pieces
 scan_all a others passed found all so_far = grind (arith)
 
 -- some of those that hit a has the position
-pub any_hit_has : (rule : HitRule) (a : Feature) (p : ℕ) (bs : List Feature) → list_any (λ b. hits rule a b && has_position p b) bs ≡ list_any (has_position p) (hits_among rule a bs)
+pub any_hit_has : (rule : HitRule) (a : Feature) (p : ℕ) (bs : List Feature) → list_any (λ b. hits rule a b && record_covers p b) bs ≡ list_any (record_covers p) (hits_among rule a bs)
 any_hit_has rule a p [] = refl
-any_hit_has rule a p (b ∷ bs) = ap (λ c. (hits rule a b && has_position p b) || c) (any_hit_has rule a p bs) ∙ (grind arith)
+any_hit_has rule a p (b ∷ bs) = ap (λ c. (hits rule a b && record_covers p b) || c) (any_hit_has rule a p bs) ∙ (grind arith)
 
 -- a position from the start on that none of the others has
-pub left_by : (a : Feature) (others : List Feature) (p : ℕ) (taken : Bool) → a.start ≤ p → taken ≡ list_any (has_position p) others → not taken ≡ is_left a others p
-left_by a others p taken low e = ap not e ∙ sym (ap (λ c. c && not (list_any (has_position p) others)) (le-leb a.start p low))
+pub left_by : (a : Feature) (others : List Feature) (p : ℕ) (taken : Bool) → a.start ≤ p → taken ≡ list_any (record_covers p) others → not taken ≡ is_left a others p
+left_by a others p taken low e = ap not e ∙ sym (ap (λ c. c && not (list_any (record_covers p) others)) (le-leb a.start p low))

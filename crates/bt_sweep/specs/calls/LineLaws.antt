@@ -62,7 +62,7 @@ abbrev pub faultless_are_all : Type 0
 faultless_are_all =
     (order : Order) (shape : Shape) (rule : HitRule) (first second : List Feature)
     (fault : Option FaultValue)
-    → (join_report (sweep_rule order shape rule second None) first fault).lines
+    → (join_report (sweep_rule order shape rule second None) first fault).output
     ≡ intersect shape rule first second
 
 -- What subtract writes (bedtools manual, subtract, option -A).
@@ -88,5 +88,5 @@ abbrev pub subtract_is_met : Type 0
 subtract_is_met =
     (order : Order) (whole : Bool) (rule : HitRule) (first second : List Feature)
     (fault : Option FaultValue)
-    → (join_report (sweep_rule order (subtract_shape whole) rule second None) first fault).lines
+    → (join_report (sweep_rule order (subtract_shape whole) rule second None) first fault).output
     ≡ subtract whole rule first second

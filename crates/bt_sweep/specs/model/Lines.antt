@@ -1,7 +1,7 @@
 -- What intersect and subtract write.
-use Rattle.std.specs.Prelude.{ℕ, Bool, not, ◌&&◌, List, nat_le, nat_lt, [], ◌∷◌, ◌++◌, codes, decimal, flat_map, length, max, min, ◌||◌, Option, is_none, true, false}
+use Rattle.std.specs.Prelude.{ℕ, Bool, not, ◌&&◌, List, nat_le, [], ◌∷◌, ◌++◌, codes, decimal, flat_map, length, max, min, ◌||◌, Option, is_none, true, false}
 use Rattle.std.specs.List.{list_any}
-use Rattle.bt_bed.specs.model.Feature.{Feature, Span}
+use Rattle.bt_bed.specs.model.Feature.{Feature, Span, record_covers}
 use Rattle.bt_bed.specs.model.Positions.{OneSpanList}
 use Rattle.bt_bed.proofs.lemmas.StretchScans.{one_span_list}
 use Rattle.bt_bed.specs.model.BedLine.{bed_text, cut_to}
@@ -12,17 +12,13 @@ use Rattle.bt_sweep.specs.declared.output.shape.Shape.{Shape}
 use Rattle.bt_sweep.specs.declared.output.shape.Shape.TheVariants.{Cut, OrigA, CutAndB, OrigBoth, Overlap, Once, Missing, Count, Pieces, Whole}
 use Rattle.bt_lines.specs.model.Fault.{FaultValue}
 use Rattle.bt_bed.specs.model.Good.{Good, items_in}
-use Rattle.bt_bed.specs.model.Meeting.{Rule, Met, join_report}
+use Rattle.bt_bed.specs.model.Meeting.{Rule, Report, join_report}
 
 -- What is left of a record without the bases of others (bedtools manual, subtract).
 
--- whether a record has the position
-abbrev pub has_position : ℕ → Feature → Bool
-has_position p r = nat_le r.start p && nat_lt p r.stop
-
 -- whether a position below the end of a is such a one
 abbrev pub is_left : Feature → List Feature → ℕ → Bool
-is_left a others p = nat_le a.start p && not (list_any (has_position p) others)
+is_left a others p = nat_le a.start p && not (list_any (record_covers p) others)
 
 -- the pieces that are left of a: the one list of intervals of those positions. Its type says which list it is, so how it is
 -- found needn't be read
@@ -82,7 +78,7 @@ intersect shape rule first second = flat_map (λ a. lines_for shape rule a secon
 -- Intersect as a meeting of two inputs.
 
 -- what the good records of the second input, and its fault, make of the records of the first
-abbrev pub sweep_rule : Order → Shape → HitRule → List Feature → Option FaultValue → Rule Feature ℕ FaultValue
+abbrev pub sweep_rule : Order → Shape → HitRule → List Feature → Option FaultValue → Rule Feature
 sweep_rule order shape rule second fault = record {
   decided = λ a. is_none fault || decided order a second;
   lines = λ a. lines_for shape rule a second;
@@ -91,7 +87,7 @@ sweep_rule order shape rule second fault = record {
 }
 
 -- the lines that intersect writes of two inputs, and the fault that it reports
-abbrev pub intersect_met : Order → Shape → HitRule → Good Feature → Good Feature → Met ℕ FaultValue
+abbrev pub intersect_met : Order → Shape → HitRule → Good Feature → Good Feature → Report
 intersect_met order shape rule first second =
     join_report (sweep_rule order shape rule (items_in second) second.fault) (items_in first) first.fault
 

@@ -5,7 +5,8 @@ ghost use Rattle.std.specs.List.{list_any};
 ghost use Rattle.bt_bed.specs.calls.Bed.{feature_lent};
 ghost use Rattle.bt_bed.specs.calls.Stretches.{with_position};
 ghost use Rattle.bt_sweep.specs.model.Hits.{hits, hits_among};
-ghost use Rattle.bt_sweep.specs.model.Lines.{has_position, is_left, pieces};
+ghost use Rattle.bt_bed.specs.model.Feature.{record_covers};
+ghost use Rattle.bt_sweep.specs.model.Lines.{is_left, pieces};
 ghost use Rattle.bt_sweep.specs.inside.Pieces.{pieces_in};
 
 use crate::hits::hit_rule::HitRule;
@@ -46,14 +47,14 @@ fn is_left(rule: HitRule, a: &BedRef<'_>, second: &[Rec], position: u64) -> bool
 
 // Whether one that hits the record has the position.
 fn is_taken(rule: HitRule, a: &BedRef<'_>, second: &[Rec], position: u64) -> bool
-    ensures { result ≡ list_any (λ b. hits rule (feature_lent a.now) b && has_position position b) second.now }
+    ensures { result ≡ list_any (λ b. hits rule (feature_lent a.now) b && record_covers position b) second.now }
 {
-    second.iter().any(|b| hits(rule, a, &b.as_bed()) && has_position(b, position))
+    second.iter().any(|b| hits(rule, a, &b.as_bed()) && record_covers(b, position))
 }
 
 // Whether the record has the position.
-fn has_position(b: &Rec, position: u64) -> bool
-    ensures { result ≡ has_position position b.now }
+fn record_covers(b: &Rec, position: u64) -> bool
+    ensures { result ≡ record_covers position b.now }
 {
     let b = b.as_bed();
     b.start <= position && position < b.stop

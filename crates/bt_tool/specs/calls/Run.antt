@@ -9,7 +9,8 @@ use Rattle.bt_lines.specs.calls.Output.{Output, block_size, IsPrefixOf, Grows}
 use Rattle.bt_lines.specs.declared.fault.Input.{Input}
 use Rattle.bt_lines.specs.declared.fault.Kind.{Kind}
 use Rattle.bt_bed.specs.model.BedLine.{fault_at_line}
-use Rattle.bt_tool.specs.model.Written.{Report, IsOneOf}
+use Rattle.bt_bed.specs.model.Meeting.{Report}
+use Rattle.bt_tool.specs.model.Written.{IsOneOf}
 use Rattle.bt_lines.specs.calls.Names.{fault_value}
 use Rattle.bt_lines.specs.declared.fault.Fault.{Fault}
 use Rattle.bt_lines.specs.declared.fault.Input.TheVariants.{Genome as FromGenome, Genome, First, Second}

@@ -14,7 +14,8 @@ use Rattle.bt_seq.specs.model.Masked.{sequence_format}
 use Rattle.bt_sweep.specs.model.Lines.{subtract_shape}
 use Rattle.bt_sweep.specs.declared.hits.hit_rule.HitRule.{HitRule}
 use Rattle.bt_sweep.specs.declared.output.shape.Shape.{Shape}
-use Rattle.bt_tool.specs.model.Written.{is_fasta_kind, is_mask_kind, mask_reaches, mask_report, mask_settles, IsOneOf, Report, members_report, members_settle, IsSweptKind, intersect_reaches, intersect_report, intersect_settles, Written, alignments_written, complement_written, coverage_written, merge_written}
+use Rattle.bt_bed.specs.model.Meeting.{Report}
+use Rattle.bt_tool.specs.model.Written.{is_fasta_kind, is_mask_kind, mask_reaches, mask_report, mask_settles, IsOneOf, members_report, members_settle, IsSweptKind, intersect_reaches, intersect_report, intersect_settles, Written, alignments_written, complement_written, coverage_written, merge_written}
 use Rattle.bt_tool.specs.declared.planning.plan_type.Command.{Command}
 use Rattle.bt_tool.specs.declared.planning.plan_type.Command.TheVariants.{Merge, Complement, Intersect, Subtract, Coverage, BamToBed, MaskFasta}
 use Rattle.bt_lines.specs.model.Fault.{FaultValue, InputNames, line_of}

@@ -16,7 +16,7 @@ use Rattle.bt_lines.specs.model.Lines.{Handed, TextLine, bytes_in, text_lines}
 use Rattle.bt_lines.specs.declared.fault.Input.TheVariants.{First, Second}
 use Rattle.bt_lines.specs.declared.fault.Kind.{Kind}
 use Rattle.bt_bed.specs.model.Good.{Format, Good, good, good_handed, items_in, Member, bed_format, bed_good, block_good}
-use Rattle.bt_bed.specs.model.Meeting.{Met}
+use Rattle.bt_bed.specs.model.Meeting.{Report}
 use Rattle.std.specs.List.{list_all}
 use Rattle.bt_lines.specs.declared.fault.Kind.TheVariants.{TooManyHeld, TextBeforeHeader, TooFewColumns, EmptyName, BadStart, BadStop, EmptyFeature, OutOfOrder, NoSequence}
 use Rattle.bt_bed.specs.model.Sorted.{sorting_of}
@@ -84,11 +84,6 @@ alignments_written split cigar = record {
 
 -- The report on the members of one input: the bytes written and the fault reported.
 
--- what a run writes, and the fault that it tells, if there is one
-pub record Report : Type 0 where
-  pub output : List ℕ
-  pub fault : Option FaultValue
-
 -- a fault is of one of the kinds that pass the test
 abbrev pub IsOneOf : (Kind → Bool) → Kind → Type 0
 IsOneOf test kind = test kind ≡ true
@@ -114,22 +109,17 @@ members_settle written format lines = written.settled (items_in (good format Fir
 -- The report of intersect, and so of subtract: what two inputs make it write, and how much of the
 -- second the first lines of the first need.
 
--- the report on how two inputs meet
-abbrev pub met_report : Met ℕ FaultValue → Report
-met_report met = record { output = met.lines; fault = met.fault }
-
 -- what intersect makes of the good records of two inputs, if no more of the second are held than
 -- the limit allows
 abbrev pub met_within : Order → Shape → HitRule → Option ℕ → Good Feature → Good Feature
-    → Met ℕ FaultValue
+    → Report
 met_within order shape rule limit first second =
     intersect_met order shape rule first (limited order limit (items_in first) second)
 
 -- the report of intersect on its inputs, in an order of their chromosomes
 abbrev pub intersect_report : Order → Shape → HitRule → Option ℕ → Handed → Handed → Report
 intersect_report order shape rule limit first second =
-    met_report (met_within order shape rule limit (bed_good First order first)
-    (bed_good Second order second))
+    met_within order shape rule limit (bed_good First order first) (bed_good Second order second)
 
 -- A line of the second input can be at fault as one of any BED input. If the number of held records is
 -- limited, it can also be the one with which they are too many.
@@ -181,7 +171,7 @@ intersect_reaches order second lines =
 -- the report of maskfasta on its inputs: with `full` a sequence's name is its whole header
 abbrev pub mask_report : MaskHow → Bool → Handed → Handed → Report
 mask_report how full first second =
-    met_report (mask_met how (sequence_good full First first) (block_good Second second))
+    mask_met how (sequence_good full First first) (block_good Second second)
 
 -- what these lines are as lines of sequences
 abbrev pub lines_on : Bool → List TextLine → List SequenceLine

@@ -7,14 +7,13 @@ use Rattle.bt_lines.specs.declared.fault.Kind.TheVariants.{NoSequence}
 use Rattle.bt_bed.specs.model.Feature.{Feature}
 use Rattle.bt_bed.specs.model.BedLine.{fault_at_line}
 use Rattle.bt_bed.specs.model.Good.{Good, Member, good, items_in, block_format, good_from, line_says}
-use Rattle.bt_bed.specs.model.Meeting.{Rule, join_report, written}
-use Rattle.bt_bed.proofs.lemmas.Definitions.{met_fault_all, all_written, met_lines, written_at}
+use Rattle.bt_bed.specs.model.Meeting.{Rule, join_report, written, Report}
+use Rattle.bt_bed.proofs.lemmas.Definitions.{met_fault_all, all_written, met_output, written_at}
 use Rattle.bt_seq.proofs.lemmas.definitions.KnowsLemmas.{leave, leave_all}
 use Rattle.bt_laws.proofs.lemmas.single.Sequences.{faultless_masked, all_decided}
 use Rattle.bt_seq.proofs.lemmas.definitions.MaskPrefixLemmas.{first_is_told, lack_none, items, none_leaves, decided_by_tags, unnamed_own}
 use Rattle.bt_seq.specs.model.Masked.{is_unnamed, mask_met, mask_rule, masked_line, names_of_sequences, no_sequence, SequenceLine, sequence_format, line_decided, bases_up_to}
 use Rattle.bt_seq.specs.declared.mask.mask_how.MaskHow.{MaskHow}
-use Rattle.bt_tool.specs.model.Written.{Report, met_report}
 use Rattle.bt_tool.specs.model.Report.{report_of}
 use Rattle.bt_laws.specs.Parts.{Texts, on_texts, BelongsToNone, MasksNone, begins_sequence, sequence_names, StandsBefore, said_records}
 use Rattle.bt_tool.specs.declared.planning.plan_type.Command.TheVariants.{MaskFasta}
@@ -32,14 +31,14 @@ use Rattle.bt_laws.proofs.lemmas.parts.PartSweep.{all_true, meets, written_befor
 module _ (how : MaskHow) where
   -- the report on lines of sequences, and on the records of the second input
   abbrev pub mask_good : Good SequenceLine → Good Feature → Report
-  mask_good first second = met_report (mask_met how first second)
+  mask_good first second = (mask_met how first second)
 
   pub mask_is : (full : Bool) (texts : Texts) → on_texts (MaskFasta how full) None texts ≡ mask_good (good (sequence_format full) First (text_lines texts.first)) (good block_format Second (text_lines texts.second))
   unfolding report_of
   mask_is full texts = grind arith
 
   -- the rule of records and their fault
-  abbrev pub rule_of : List (List ℕ) → List (Member Feature) → Option FaultValue → Rule SequenceLine ℕ FaultValue
+  abbrev pub rule_of : List (List ℕ) → List (Member Feature) → Option FaultValue → Rule SequenceLine
   rule_of names members fault = mask_rule how names (record { members = members; fault = fault })
 
   met_sound : (names : List (List ℕ)) (lines : List SequenceLine) (fault : Option FaultValue) (members : List (Member Feature)) (second : Option FaultValue)
@@ -134,7 +133,7 @@ lost_good names ones (m ∷ ms) lost = grind (arith, (lost_good names ones ms))
 
 -- ---- written lines
 
-module _ (mine yours : Rule SequenceLine ℕ FaultValue) (move : SequenceLine → SequenceLine) where
+module _ (mine yours : Rule SequenceLine) (move : SequenceLine → SequenceLine) where
   -- lines that were moved, by a rule that says the same of them
   written_moved : (xs : List SequenceLine) → AllByRecursion (λ x. (mine.decided (move x) ≡ yours.decided x) × (mine.lines (move x) ≡ yours.lines x)) xs → written mine (map move xs) ≡ written yours xs
   written_moved [] h = refl
@@ -161,7 +160,7 @@ module _ (how : MaskHow) (full : Bool) where
   R text = items_in (B text)
 
   -- the rule for two texts
-  abbrev rule_on : Texts → Rule SequenceLine ℕ FaultValue
+  abbrev rule_on : Texts → Rule SequenceLine
   rule_on texts = mask_rule how (N texts.first) (B texts.second)
 
   -- a record has no sequence, and no line before the first header is at fault
@@ -174,7 +173,7 @@ module _ (how : MaskHow) (full : Bool) where
 
   -- then all lines are written
   lacks_output : (texts : Texts) → Lacks texts → (report_on texts).output ≡ flat_map (masked_line how (R texts.second)) (items_in (F texts.first))
-  lacks_output texts lacks = grind (arith, met_lines, (all_written (rule_on texts) (items_in (F texts.first)) (lacks_decided texts lacks)), (lacks_decided texts lacks))
+  lacks_output texts lacks = grind (arith, met_output, (all_written (rule_on texts) (items_in (F texts.first)) (lacks_decided texts lacks)), (lacks_decided texts lacks))
 
   -- and this is reported
   pub lacks_kind : (texts : Texts) → Lacks texts → option_map (λ fault. fault.kind) (report_on texts).fault ≡ Some NoSequence
@@ -231,7 +230,7 @@ module _ (how : MaskHow) (full : Bool) where
 
       -- a record of it is at fault
       stops_faulty : (fault : FaultValue) → (B one.second).fault ≡ Some fault → (report_on one).output ≡ (report_on both).output
-      stops_faulty fault e = grind (arith, (faulty_same Second one.second two.second are.second fault e), (met_lines (rule_on one) (items_in (F one.first)) (F one.first).fault), (met_lines (rule_on both) (items_in (F (one.first ++ two.first))) (F (one.first ++ two.first)).fault), (lines_of_both lines), (written_before (mask_rule how (N (one.first ++ two.first)) (B one.second)) (items_in (F one.first)) (map (line_after (N one.first)) (items_in (F two.first))) (undecided (B one.second) (ap is_none e) refl (N (one.first ++ two.first)))))
+      stops_faulty fault e = grind (arith, (faulty_same Second one.second two.second are.second fault e), (met_output (rule_on one) (items_in (F one.first)) (F one.first).fault), (met_output (rule_on both) (items_in (F (one.first ++ two.first))) (F (one.first ++ two.first)).fault), (lines_of_both lines), (written_before (mask_rule how (N (one.first ++ two.first)) (B one.second)) (items_in (F one.first)) (map (line_after (N one.first)) (items_in (F two.first))) (undecided (B one.second) (ap is_none e) refl (N (one.first ++ two.first)))))
 
       -- none is, and no record of the second part belongs to a sequence of it
       module _ (records : (B one.second).fault ≡ None) (said : IsLost (N one.first) (R one.second) (said_records two.second)) where
@@ -268,7 +267,7 @@ module _ (how : MaskHow) (full : Bool) where
             ∙ sym (ap₂ (λ a b. a ++ b) first_output (sound_output how (F two.first) (B two.second) e))
 
         -- or one is
-        abbrev W : Rule SequenceLine ℕ FaultValue
+        abbrev W : Rule SequenceLine
         W = rule_on both
 
         first_same : AllByRecursion (λ line. W.lines line ≡ masked_line how (R one.second) line) (items_in (F one.first))
@@ -277,7 +276,7 @@ module _ (how : MaskHow) (full : Bool) where
         second_same : written W (map (line_after (N one.first)) (items_in (F two.first))) ≡ (report_on two).output
         second_same =
             written_moved W (rule_on two) (line_after (N one.first)) (items_in (F two.first)) (all_so _ _ (items_in (F two.first)) (λ line u. same line u) named_two)
-            ∙ sym (met_lines (rule_on two) (items_in (F two.first)) (F two.first).fault)
+            ∙ sym (met_output (rule_on two) (items_in (F two.first)) (F two.first).fault)
           where
             by_names : (line : SequenceLine) (own : List (List ℕ)) → line.names ≡ own → is_unnamed own ≡ false
                 → (is_unnamed (N one.first ++ line.names) || list_any (tag_decides (bases_up_to line)) (tags_of (N one.first ++ line.names) (R one.second ++ R two.second)))
@@ -302,7 +301,7 @@ module _ (how : MaskHow) (full : Bool) where
         pub stops_sound : (report_on one).fault ≡ None → Stops (report_on one) (report_on two) (report_on both)
         stops_sound none =
             let more = meets (rule_on one) W (items_in (F one.first)) (map (line_after (N one.first)) (items_in (F two.first))) (report_on two).output first_same second_same (either (B two.second).fault refl (R two.second) refl) in
-            (more.0, grind (arith, first_output, (met_lines W (items_in (F (one.first ++ two.first))) (F (one.first ++ two.first)).fault), lines_of_both))
+            (more.0, grind (arith, first_output, (met_output W (items_in (F (one.first ++ two.first))) (F (one.first ++ two.first)).fault), lines_of_both))
 
     -- both parts are sound
     both_sound : IsSound (F one.first) (B one.second) → IsSound (F two.first) (B two.second) → IsLost (N one.first) (R one.second) (said_records two.second)

@@ -6,12 +6,13 @@ use Rattle.bt_bed.specs.model.Genome.{Entry, genome_names}
 use Rattle.bt_bed.specs.model.Order.{is_among, rank_order, Order}
 use Rattle.bt_bed.specs.calls.Orders.{AreDistinct, IsTotal, ArePlaced}
 use Rattle.bt_bed.specs.inside.RankTotal.{ranks_total}
-use Rattle.bt_bed.specs.model.Sorted.{has_records, sorting_of}
+use Rattle.bt_bed.specs.model.Sorted.{has_records, sorting_of, comes_first}
 use Rattle.bt_bed.proofs.lemmas.parse.NameLemmas.{name_eq, name_ne, name_ne-sym}
 use Rattle.bt_bed.proofs.lemmas.order.OrderLemmas.{among_ranked}
-use Rattle.bt_runs.specs.model.Gaps.{is_over_at, complement, gaps_on, is_asked, settled_gaps}
+use Rattle.bt_runs.specs.model.Gaps.{complement, gaps_on, is_asked, settled_gaps}
 use Rattle.bt_runs.specs.calls.Complementing.{AreInGenomeOrder}
-use Rattle.bt_tool.specs.model.Written.{Written, complement_written, coverage_written, merge_written, pooled_written, Report, good_report, members_report}
+use Rattle.bt_bed.specs.model.Meeting.{Report}
+use Rattle.bt_tool.specs.model.Written.{Written, complement_written, coverage_written, merge_written, pooled_written, good_report, members_report}
 use Rattle.bt_laws.proofs.lemmas.parts.PartGenomes.{agree_first, agree_second, apart_both, entry_less, names_both, among_append, no_first, agree_good, records_both, within_before, last_behind, last_is, none_has, has_append, records_away, Agree, Within}
 use Rattle.bt_runs.proofs.lemmas.Lists.{all_flat_map, all_so, filter_all, filter_none, filter_same, flat_map_same, all_any, all_both, all_map, map_same, all_unmap, all_zip, all_back, all_front, any_same}
 use Rattle.bt_laws.proofs.lemmas.parts.PartReports.{Splits, nothing, parts_both, Joins, good_joins}
@@ -57,7 +58,7 @@ module _ {T : Type 0} (chrom : T → List ℕ) (ends : Interval → T → Bool) 
   whole_of entries records = flat_map (F records) entries
 
   abbrev pub is_ended : List (List ℕ) → Interval → T → Bool
-  is_ended names last t = is_over_at ((rank_order names).compare (chrom t) last.chrom) (ends last t)
+  is_ended names last t = comes_first ((rank_order names).compare (chrom t) last.chrom) (ends last t)
 
   abbrev pub ended : List (List ℕ) → List T → Option Interval → List T
   ended names items None = []
@@ -113,9 +114,9 @@ module _ {T : Type 0} (chrom : T → List ℕ) (ends : Interval → T → Bool) 
         ap (filter (is_ended Both last)) (flat_map-append (F (q ∷ qs)) e_one e_two)
         ∙ filter-append (is_ended Both last) (whole_of e_one (q ∷ qs)) (whole_of e_two (q ∷ qs))
         ∙ ap₂ (λ a b. a ++ b)
-        (filter_same (is_ended Both last) (is_ended One-names last) (whole_of e_one (q ∷ qs)) (all_so _ _ (whole_of e_one (q ∷ qs)) (λ t is. ap (λ o. is_over_at o (ends last t)) ((agree_first e_one e_two).compare (chrom t) last.chrom (λ w. is) (λ w. at))) (items_named One-names e_one (q ∷ qs) own_one)))
+        (filter_same (is_ended Both last) (is_ended One-names last) (whole_of e_one (q ∷ qs)) (all_so _ _ (whole_of e_one (q ∷ qs)) (λ t is. ap (λ o. comes_first o (ends last t)) ((agree_first e_one e_two).compare (chrom t) last.chrom (λ w. is) (λ w. at))) (items_named One-names e_one (q ∷ qs) own_one)))
         (filter_none (is_ended Both last) (whole_of e_two (q ∷ qs)) (all_so _ _ (whole_of e_two (q ∷ qs))
-        (λ t is. ap (λ o. is_over_at o (ends last t)) (entry_less e_one e_two distinct last.chrom (chrom t) at is).1) (items_named Two-names e_two (q ∷ qs) own_two)))
+        (λ t is. ap (λ o. comes_first o (ends last t)) (entry_less e_one e_two distinct last.chrom (chrom t) at is).1) (items_named Two-names e_two (q ∷ qs) own_two)))
         ∙ append-nil (filter (is_ended One-names last) (whole_of e_one (q ∷ qs)))
 
     settled_both : (ones : List Feature) (s : Feature) (twos : List Feature) → AllByRecursion (λ r. is_among One-names r.chrom ≡ true) (intervals_of ones) → AllByRecursion (λ r. is_among Two-names r.chrom ≡ true) (intervals_of (s ∷ twos))
@@ -128,8 +129,8 @@ module _ {T : Type 0} (chrom : T → List ℕ) (ends : Interval → T → Bool) 
         ∙ filter-append (is_ended Both last) (whole_of e_one ones) (whole_of e_two (s ∷ twos))
         ∙ ap₂ (λ a b. a ++ b)
         (filter_all (is_ended Both last) (whole_of e_one ones) (all_so _ _ (whole_of e_one ones)
-        (λ t is. ap (λ o. is_over_at o (ends last t)) (entry_less e_one e_two distinct (chrom t) last.chrom is at).0) (items_named One-names e_one ones own_one)))
-        (filter_same (is_ended Both last) (is_ended Two-names last) (whole_of e_two (s ∷ twos)) (all_so _ _ (whole_of e_two (s ∷ twos)) (λ t is. ap (λ o. is_over_at o (ends last t)) ((agree_second e_one e_two distinct).compare (chrom t) last.chrom (λ w. is) (λ w. at))) (items_named Two-names e_two (s ∷ twos) own_two)))
+        (λ t is. ap (λ o. comes_first o (ends last t)) (entry_less e_one e_two distinct (chrom t) last.chrom is at).0) (items_named One-names e_one ones own_one)))
+        (filter_same (is_ended Both last) (is_ended Two-names last) (whole_of e_two (s ∷ twos)) (all_so _ _ (whole_of e_two (s ∷ twos)) (λ t is. ap (λ o. comes_first o (ends last t)) ((agree_second e_one e_two distinct).compare (chrom t) last.chrom (λ w. is) (λ w. at))) (items_named Two-names e_two (s ∷ twos) own_two)))
 
     begin_by : (ones twos : List Feature) → AllByRecursion (λ r. is_among One-names r.chrom ≡ true) (intervals_of ones) → AllByRecursion (λ r. is_among Two-names r.chrom ≡ true) (intervals_of twos)
         → ((rest : List T) × (whole_of e_one ones ≡ settled_of e_one ones ++ rest))

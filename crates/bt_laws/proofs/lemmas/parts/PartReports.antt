@@ -3,7 +3,8 @@ use Rattle.bt_lines.proofs.Std.{rules, arith, ◌≡◌, ℕ, false, List, [], �
 use Rattle.bt_lines.specs.model.Fault.{FaultValue}
 use Rattle.bt_bed.specs.model.Good.{Good, items_in}
 use Rattle.bt_laws.specs.Parts.{AddUp, StopWithin, prefixes_begin, outputs_to_fault, unless_fault}
-use Rattle.bt_tool.specs.model.Written.{Report, good_report, report_by, Written}
+use Rattle.bt_bed.specs.model.Meeting.{Report}
+use Rattle.bt_tool.specs.model.Written.{good_report, report_by, Written}
 use Rattle.bt_laws.proofs.lemmas.parts.PartLines.{IsJoint, IsJointBy}
 
 -- two parts, and the whole

@@ -6,7 +6,7 @@ use Rattle.bt_lines.specs.declared.fault.Input.{Input}
 use Rattle.bt_lines.specs.declared.fault.Kind.TheVariants.{TextBeforeHeader}
 use Rattle.bt_lines.proofs.lemmas.reader.lines.TextLemmas.{lines_from-fed, lines_from-last, by_lines}
 use Rattle.bt_bed.specs.model.Good.{Format, Good, good, good_from, items_in, line_says as record_says, locus_at, block_format, bed_format}
-use Rattle.bt_seq.specs.model.Masked.{is_unnamed, names_of_sequences, Reached, SequenceLine, header_behind, is_sequence_header, line_behind, line_says, may_stand, sequence_format}
+use Rattle.bt_seq.specs.model.Masked.{is_unnamed, names_of_sequences, Reached, SequenceLine, header_behind, is_sequence_header, line_behind, sequence_says, may_stand, sequence_format}
 use Rattle.bt_laws.specs.Parts.{begins_sequence, name_on, sequence_names, StandsBefore, said_records}
 use Rattle.bt_laws.proofs.lemmas.parts.PartLines.{like_from, alike_lines, lines_join, IsLike, put_on, reached, go_from, alike_records, records_on, items_all}
 use Rattle.bt_bed.specs.model.Feature.{Feature}
@@ -46,10 +46,10 @@ module _ (full : Bool) (input : Input) where
   abbrev Fasta : Format SequenceLine Reached
   Fasta = sequence_format full
 
-  says_header : (s : Reached) (line : TextLine) → is_sequence_header line.text ≡ true → line_says full s line ≡ Ok (Some (header_behind full s line))
+  says_header : (s : Reached) (line : TextLine) → is_sequence_header line.text ≡ true → sequence_says full s line ≡ Ok (Some (header_behind full s line))
   says_header s line e = grind (arith, cond, (cond (may_stand s.names line.text) (Ok (Some (line_behind s line))) (Err TextBeforeHeader)))
 
-  says_bases : (s : Reached) (line : TextLine) → is_sequence_header line.text ≡ false → is_unnamed s.names ≡ false → line_says full s line ≡ Ok (Some (line_behind s line))
+  says_bases : (s : Reached) (line : TextLine) → is_sequence_header line.text ≡ false → is_unnamed s.names ≡ false → sequence_says full s line ≡ Ok (Some (line_behind s line))
   says_bases s line e named = grind arith
 
   moved_from : (names : List (List ℕ)) (s : Reached) (ls : List TextLine) → is_unnamed s.names ≡ false → AreMoved names (good_from Fasta input (reached_after names s) ls) (good_from Fasta input s ls)
@@ -140,8 +140,8 @@ module _ (full : Bool) (input : Input) where
       let moved = moved_header r (lines_from n two) (header_first n two e) in
       grind (arith, (like_from Fasta input Fasta.begin (lines_from n two) (text_lines two) (λ state l m t d. same_said state l m t d) (alike_lines n 1 two)))
     where
-      same_said : (state : Reached) (l m : TextLine) → l.text ≡ m.text → l.ending ≡ m.ending → line_says full state l ≡ line_says full state m
-      same_said state l m t d = ap₂ (λ text ending. line_says full state (record { number = l.number; text = text; ending = ending })) t d
+      same_said : (state : Reached) (l m : TextLine) → l.text ≡ m.text → l.ending ≡ m.ending → sequence_says full state l ≡ sequence_says full state m
+      same_said state l m t d = ap₂ (λ text ending. sequence_says full state (record { number = l.number; text = text; ending = ending })) t d
 
   -- what is good of both texts: the first is at fault, or the lines of the second come after its sequences
   abbrev pub AreBothBy : Option FaultValue → Good SequenceLine → Good SequenceLine → Good SequenceLine → Type 0

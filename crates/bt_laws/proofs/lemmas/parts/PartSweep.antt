@@ -4,16 +4,15 @@ use Rattle.std.specs.declared.cmp.Ordering.TheVariants.{Less}
 use Rattle.bt_sweep.proofs.lemmas.definitions.HitLemmas.{apart_misses}
 use Rattle.bt_lines.specs.model.Fault.{FaultValue}
 use Rattle.bt_bed.specs.model.Feature.{Feature}
-use Rattle.bt_bed.specs.model.Meeting.{Rule, join_report, written}
+use Rattle.bt_bed.specs.model.Meeting.{Rule, join_report, written, Report}
 use Rattle.bt_bed.specs.model.Order.{Order}
 use Rattle.bt_bed.specs.calls.Orders.{IsTotal}
-use Rattle.bt_bed.proofs.lemmas.Definitions.{met_lines, written_past}
+use Rattle.bt_bed.proofs.lemmas.Definitions.{met_output, written_past}
 use Rattle.bt_sweep.specs.model.Hits.{decided, decides}
 use Rattle.bt_sweep.specs.model.Lines.{intersect, lines_for, sweep_rule}
 use Rattle.bt_sweep.specs.declared.hits.hit_rule.HitRule.{HitRule}
 use Rattle.bt_sweep.specs.declared.output.shape.Shape.{Shape}
 use Rattle.bt_laws.specs.Parts.{unless_fault}
-use Rattle.bt_tool.specs.model.Written.{Report, met_report}
 use Rattle.bt_laws.proofs.lemmas.parts.PartLines.{Earlier}
 use Rattle.bt_runs.proofs.lemmas.Lists.{all_any, all_so, all_swapped, all_zip, filter_none, flat_map_same, none_from}
 use Rattle.bt_laws.proofs.lemmas.parts.PartReports.{Stops, Contiguous, Joins}
@@ -47,15 +46,15 @@ pub any_behind : {A : Type 0} (t : A → Bool) (xs ys : List A) → AllByRecursi
 any_behind t [] ys h = refl
 any_behind t (x ∷ xs) ys h = grind (arith, (any_behind t xs ys h.1))
 
-pub written_same : {A : Type 0} (mine yours : Rule A ℕ FaultValue) (xs : List A) → AllByRecursion (λ x. (mine.decided x ≡ yours.decided x) × (mine.lines x ≡ yours.lines x)) xs → written mine xs ≡ written yours xs
+pub written_same : {A : Type 0} (mine yours : Rule A) (xs : List A) → AllByRecursion (λ x. (mine.decided x ≡ yours.decided x) × (mine.lines x ≡ yours.lines x)) xs → written mine xs ≡ written yours xs
 written_same mine yours xs h = grind (arith, take_same, all_so, flat_map_same, common_steps)
 
-pub written_before : {A : Type 0} (rule : Rule A ℕ FaultValue) (xs ys : List A) → AllByRecursion (λ y. rule.decided y ≡ false) ys → written rule (xs ++ ys) ≡ written rule xs
+pub written_before : {A : Type 0} (rule : Rule A) (xs ys : List A) → AllByRecursion (λ y. rule.decided y ≡ false) ys → written rule (xs ++ ys) ≡ written rule xs
 written_before rule xs ys h = grind (arith, take_before)
 
 -- What is written of the members of both parts begins this: the lines of the first, and what is written of the second.
 -- For all of the first are decided, or none of the second.
-pub meets : {A : Type 0} (one whole : Rule A ℕ FaultValue) (xs ys : List A) (later : List ℕ) → AllByRecursion (λ x. whole.lines x ≡ one.lines x) xs → written whole ys ≡ later
+pub meets : {A : Type 0} (one whole : Rule A) (xs ys : List A) (later : List ℕ) → AllByRecursion (λ x. whole.lines x ≡ one.lines x) xs → written whole ys ≡ later
     → (list_all whole.decided xs ≡ true) ⊎ AllByRecursion (λ y. whole.decided y ≡ false) ys → (rest : List ℕ) × (flat_map one.lines xs ++ later ≡ written whole (xs ++ ys) ++ rest)
 meets one whole xs ys later same is (inl all) = grind (arith, written_past, flat_map_same, append-nil)
 meets one whole xs ys later same is (inr none) = grind (arith, append-nil, (take_front whole.decided whole.lines xs), (written_before whole xs ys none), (flat_map_same whole.lines one.lines xs same), (take_none whole.decided ys none))
@@ -76,7 +75,7 @@ module _ (shape : Shape) (rule : HitRule) where
 module _ (order : Order) (shape : Shape) (rule : HitRule) where
   -- the report on records and their faults
   abbrev pub sweep_report : List Feature → Option FaultValue → List Feature → Option FaultValue → Report
-  sweep_report given fa bs fb = met_report (join_report (sweep_rule order shape rule bs fb) given fa)
+  sweep_report given fa bs fb = (join_report (sweep_rule order shape rule bs fb) given fa)
 
   decided_none : (bs given : List Feature) → list_all (sweep_rule order shape rule bs None).decided given ≡ true
   decided_none bs [] = refl
@@ -127,10 +126,10 @@ module _ {order : Order} {total : IsTotal order} (shape : Shape) (rule : HitRule
     written_one (Some g) j = grind arith
 
     stops_second : Stops (sweep_report order shape rule aones fa1 bones (Some f)) (sweep_report order shape rule atwos fa2 btwos fb2) (sweep_report order shape rule all fa bs fb)
-    stops_second = grind (arith, (met_lines (sweep_rule order shape rule bones (Some f)) aones fa1), (written_one fa1 ja), (met_lines (sweep_rule order shape rule bs fb) all fa))
+    stops_second = grind (arith, (met_output (sweep_rule order shape rule bones (Some f)) aones fa1), (written_one fa1 ja), (met_output (sweep_rule order shape rule bs fb) all fa))
 
   module _ (fa1 fa2 fa fb2 fb : Option FaultValue) (all bs : List Feature) (ja : Contiguous fa1 fa2 fa aones atwos all) (jb : Contiguous None fb2 fb bones btwos bs) where
-    abbrev Rule-of-both : Rule Feature ℕ FaultValue
+    abbrev Rule-of-both : Rule Feature
     Rule-of-both = sweep_rule order shape rule bs fb
 
     first_same : AllByRecursion (λ a. Rule-of-both.lines a ≡ lines_for shape rule a bones) aones
@@ -158,10 +157,10 @@ module _ {order : Order} {total : IsTotal order} (shape : Shape) (rule : HitRule
 
     ends : (g : Option FaultValue) → fa1 ≡ g → (ys : List Feature) (later : List ℕ) → unless_fault g (sweep_report order shape rule atwos fa2 btwos fb2).output ≡ later → all ≡ aones ++ ys → written Rule-of-both ys ≡ later
         → (list_all Rule-of-both.decided aones ≡ true) ⊎ AllByRecursion (λ a. Rule-of-both.decided a ≡ false) ys → Ends
-    ends g e ys later f is same met = grind (arith, (meets (sweep_rule order shape rule bones None) Rule-of-both aones ys later first_same same met), (lines_none order shape rule aones fa1 bones), (fault_none order shape rule aones fa1 bones), (met_lines Rule-of-both all fa))
+    ends g e ys later f is same met = grind (arith, (meets (sweep_rule order shape rule bones None) Rule-of-both aones ys later first_same same met), (lines_none order shape rule aones fa1 bones), (fault_none order shape rule aones fa1 bones), (met_output Rule-of-both all fa))
 
     stops_by : (g : Option FaultValue) → fa1 ≡ g → Ends
-    stops_by None e = ends None e atwos _ refl (grind arith) (second_same ∙ sym (met_lines (sweep_rule order shape rule btwos fb2) atwos fa2)) (either fb2 refl btwos refl)
+    stops_by None e = ends None e atwos _ refl (grind arith) (second_same ∙ sym (met_output (sweep_rule order shape rule btwos fb2) atwos fa2)) (either fb2 refl btwos refl)
     stops_by (Some g) e = ends (Some g) e [] [] refl (grind (arith, append-nil)) refl (inr tt)
 
   pub sweep_stops : (fa1 fa2 fa fb1 fb2 fb : Option FaultValue) (all bs : List Feature) → Contiguous fa1 fa2 fa aones atwos all → Contiguous fb1 fb2 fb bones btwos bs

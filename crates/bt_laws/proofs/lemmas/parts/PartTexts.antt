@@ -5,7 +5,8 @@ use Rattle.bt_lines.specs.declared.fault.Input.TheVariants.{First, Second}
 use Rattle.bt_bed.specs.model.Good.{Good, good, good_from, items_in, bed_format}
 use Rattle.bt_seq.specs.model.Alignment.{Alignment, alignment_of, sam_format}
 use Rattle.bt_laws.specs.Parts.{AreOfLines, StandsBefore, joined, ComeBefore, said_records, bamtobed_divides, on_text, ArePairs, PairsAscend, Texts, TextsAscend, intersect_divides, joined_texts, merge_divides, on_texts, subtract_divides, PairsAddUp, AreAtHeaders, WritesOn, MaskTheirOwn, NoneMoves, begins_sequence, maskfasta_divides, repeated_names_divide, AddUp, StopWithin, outputs_to_fault}
-use Rattle.bt_tool.specs.model.Written.{Report, Written, good_report, alignments_written, merge_written}
+use Rattle.bt_bed.specs.model.Meeting.{Report}
+use Rattle.bt_tool.specs.model.Written.{Written, good_report, alignments_written, merge_written}
 use Rattle.bt_tool.specs.model.Report.{report_of, chromosomes_of, order_in_use}
 use Rattle.bt_tool.specs.declared.planning.plan_type.Command.TheVariants.{BamToBed, Intersect, Merge, Subtract, MaskFasta}
 use Rattle.bt_laws.proofs.lemmas.parts.PartLines.{good_joint, Earlier, bed_joint, good_earlier, good_known}

@@ -149,7 +149,7 @@ limit_whole order limit first second e = grind (arith, cut_whole)
 
 -- without a fault all pairs are written, with a limit or without one
 pub swept_whole : (order : Order) (shape : Shape) (rule : HitRule) (limit : Option ℕ) (first second : Good Feature) → (met_within order shape rule limit first second).fault ≡ None
-    → (met_within order shape rule limit first second).lines ≡ intersect shape rule (items_in first) (items_in second)
+    → (met_within order shape rule limit first second).output ≡ intersect shape rule (items_in first) (items_in second)
 swept_whole order shape rule limit first second e = grind (arith, faultless_all, cut_whole)
 
 module _ (shape : Shape) (rule : HitRule) (chromosomes : Option (List Entry)) (inputs : Inputs) where

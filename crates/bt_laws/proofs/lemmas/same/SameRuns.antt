@@ -34,7 +34,8 @@ use Rattle.bt_lines.specs.model.Fault.{FaultValue}
 use Rattle.bt_lines.specs.model.Lines.{Handed, whole_text}
 use Rattle.bt_bed.specs.model.Good.{items_in, bed_format, bed_good}
 use Rattle.bt_runs.proofs.lemmas.merge.Bridging.{are_runs, bridged_here, only_runs}
-use Rattle.bt_tool.specs.model.Written.{Report, report_by, Written, complement_written, members_report, merge_written}
+use Rattle.bt_bed.specs.model.Meeting.{Report}
+use Rattle.bt_tool.specs.model.Written.{report_by, Written, complement_written, members_report, merge_written}
 use Rattle.bt_tool.specs.declared.planning.plan_type.Command.{Command}
 use Rattle.bt_laws.specs.Pipes.{IsInput, three_columns}
 

@@ -3,7 +3,7 @@ use Rattle.bt_lines.proofs.Std.{◌≡◌, ℕ, Bool, false, cond, List, [], ◌
 use Rattle.bt_lines.specs.model.Fault.{FaultValue}
 use Rattle.bt_lines.specs.model.Lines.{Handed, cut_fault, lines_handed, whole_text, TextLine}
 use Rattle.bt_lines.specs.declared.fault.Input.TheVariants.{First, Second}
-use Rattle.bt_bed.specs.model.Feature.{Feature, interval_of, intervals_of, Interval, spans_on}
+use Rattle.bt_bed.specs.model.Feature.{Feature, interval_of, intervals_of, Interval, spans_on, record_covers}
 use Rattle.bt_bed.specs.model.Positions.{IsCovered}
 use Rattle.bt_bed.specs.model.BedLine.{bed_text, interval_lines, record_of}
 use Rattle.bt_bed.specs.model.Genome.{Entry}
@@ -45,7 +45,7 @@ use Rattle.bt_laws.proofs.lemmas.pipes.LinesBack.{IsSaid, good_are_said}
 use Rattle.bt_laws.proofs.lemmas.pipes.SweepBack.{Hit, all_hits, cut_bounds, same_name}
 use Rattle.bt_laws.proofs.lemmas.parts.PartTexts.{order_total}
 use Rattle.bt_runs.proofs.lemmas.merge.Bridging.{is_covered-Decides}
-use Rattle.bt_seq.specs.model.Masked.{record_covers, Block, Owned, blocks_by, items_if_last, left_by, own_records, owned_from}
+use Rattle.bt_seq.specs.model.Masked.{Block, Owned, blocks_by, items_if_last, left_by, own_records, owned_from}
 use Rattle.bt_seq.specs.calls.MaskState.{left_at_last}
 use Rattle.bt_seq.proofs.lemmas.definitions.KnowsLemmas.{leave, leave_all}
 use Rattle.bt_laws.proofs.lemmas.pipes.Placing.{others}

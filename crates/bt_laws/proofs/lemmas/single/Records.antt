@@ -16,7 +16,7 @@ use Rattle.bt_bed.specs.model.Sorted.{Locus, sorting_of, has_records}
 use Rattle.bt_bed.specs.calls.Orders.{AreContiguous, AreDistinct}
 use Rattle.bt_lines.proofs.lemmas.reader.lines.TextLemmas.{lines_are_numbered, IsColumn, IsInside}
 use Rattle.bt_bed.proofs.lemmas.read.good.SaidLemmas.{ascend_from, first_from, within_from}
-use Rattle.bt_bed.proofs.lemmas.Definitions.{non_empty_from, met_lines, written_at}
+use Rattle.bt_bed.proofs.lemmas.Definitions.{non_empty_from, met_output, written_at}
 use Rattle.bt_bed.proofs.lemmas.StretchScans.{stretches_are_same}
 use Rattle.bt_bed.specs.calls.Reading.{IsFaultBeyond}
 use Rattle.bt_bed.specs.model.Order.{byte_order}
@@ -187,10 +187,10 @@ rewritten_feature text f e = grind (arith, (record_said text f e), written_featu
 
 -- Lemmas on what is written early of two inputs.
 
-module _ {A L F : Type 0} where
-  begin_at : (early late : Rule A L F) (a : A) (members more : List A) (d : Bool) → early.decided a ≡ d → StaysDecided early late a
-      → (rest : List L) × (written late (members ++ more) ≡ written early members ++ rest)
-      → (rest : List L) × (written late (a ∷ members ++ more) ≡ written early (a ∷ members) ++ rest)
+module _ {A : Type 0} where
+  begin_at : (early late : Rule A) (a : A) (members more : List A) (d : Bool) → early.decided a ≡ d → StaysDecided early late a
+      → (rest : List ℕ) × (written late (members ++ more) ≡ written early members ++ rest)
+      → (rest : List ℕ) × (written late (a ∷ members ++ more) ≡ written early (a ∷ members) ++ rest)
   begin_at early late a members more true e stays rest =
       let now = stays e in (
         rest.0,
@@ -203,14 +203,14 @@ module _ {A L F : Type 0} where
   begin_at early late a members more false e stays rest =
       (written late (a ∷ members ++ more), ap (λ l. l ++ written late (a ∷ members ++ more)) (sym (written_at early a members false e)))
 
-  begins : (early late : Rule A L F) (members more : List A) → AllByRecursion (StaysDecided early late) members
-      → (rest : List L) × (written late (members ++ more) ≡ written early members ++ rest)
+  begins : (early late : Rule A) (members more : List A) → AllByRecursion (StaysDecided early late) members
+      → (rest : List ℕ) × (written late (members ++ more) ≡ written early members ++ rest)
   begins early late [] more stays = (written late more, refl)
   begins early late (a ∷ members) more stays = begin_at early late a members more (early.decided a) refl stays.0 (begins early late members more stays.1)
 
-  pub written_begins : (early late : Rule A L F) (members more : List A) (fault : Option F) → AllByRecursion (StaysDecided early late) members
-      → (rest : List L) × ((join_report late (members ++ more) fault).lines ≡ written early members ++ rest)
-  written_begins early late members more fault stays = grind (arith, (begins early late members more stays), (met_lines late (members ++ more) fault))
+  pub written_begins : (early late : Rule A) (members more : List A) (fault : Option FaultValue) → AllByRecursion (StaysDecided early late) members
+      → (rest : List ℕ) × ((join_report late (members ++ more) fault).output ≡ written early members ++ rest)
+  written_begins early late members more fault stays = grind (arith, (begins early late members more stays), (met_output late (members ++ more) fault))
 
 -- The order of names by their bytes: which of two names comes first.
 

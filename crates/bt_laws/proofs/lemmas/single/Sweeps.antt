@@ -18,8 +18,8 @@ use Rattle.bt_sweep.specs.calls.Sweeping.{leaves_some}
 use Rattle.bt_lines.specs.declared.fault.Input.TheVariants.{Second}
 use Rattle.bt_lines.specs.declared.fault.Kind.TheVariants.{TooManyHeld}
 use Rattle.bt_bed.specs.model.Good.{Good, items_in}
-use Rattle.bt_bed.specs.model.Meeting.{Met, join_report}
-use Rattle.bt_bed.proofs.lemmas.Definitions.{all_stop, met_fault_stop, met_lines, written_stop}
+use Rattle.bt_bed.specs.model.Meeting.{Report, join_report}
+use Rattle.bt_bed.proofs.lemmas.Definitions.{all_stop, met_fault_stop, met_output, written_stop}
 
 -- Lemmas on what a sweep decides and writes early.
 
@@ -98,20 +98,20 @@ limit_kept order most first second enough =
     cut_none (are_too_many order most first) [] second.members second.fault
     (λ front m rest e. enough_few order most (map (λ m. m.item) (front ++ m ∷ [])) first (enough (front ++ m ∷ []) rest (e ∙ sym (append_assoc front (m ∷ []) rest))))
 
-met_is : (met : Met ℕ FaultValue) (lines : List ℕ) (fault : Option FaultValue) → met.lines ≡ lines → met.fault ≡ fault → met ≡ record { lines = lines; fault = fault }
+met_is : (met : Report) (output : List ℕ) (fault : Option FaultValue) → met.output ≡ output → met.fault ≡ fault → met ≡ record { output = output; fault = fault }
 met_is met lines fault e f = grind arith
 
 -- if a record is undecided, and the second input has a fault
 met_stops : (order : Order) (shape : Shape) (rule : HitRule) (first second : Good Feature) (before after : List Feature) (a : Feature) (fault : FaultValue) → items_in first ≡ before ++ a ∷ after → second.fault ≡ Some fault
     → list_all (λ x. decided order x (items_in second)) before ≡ true → decided order a (items_in second) ≡ false
-    → intersect_met order shape rule first second ≡ record { lines = intersect shape rule before (items_in second); fault = Some fault }
+    → intersect_met order shape rule first second ≡ record { output = intersect shape rule before (items_in second); fault = Some fault }
 met_stops order shape rule first second before after a fault is told all undecided =
     let early = sweep_rule order shape rule (items_in second) (Some fault) in
     let made : intersect_met order shape rule first second ≡ join_report early (before ++ a ∷ after) first.fault =
     ap (λ (o : Option FaultValue). join_report (sweep_rule order shape rule (items_in second) o) (items_in first) first.fault) told ∙ ap (λ l. join_report early l first.fault) is in
     made
     ∙ met_is (join_report early (before ++ a ∷ after) first.fault) (intersect shape rule before (items_in second)) (Some fault)
-    (met_lines early (before ++ a ∷ after) first.fault ∙ written_stop early before a after all undecided)
+    (met_output early (before ++ a ∷ after) first.fault ∙ written_stop early before a after all undecided)
     (met_fault_stop early (before ++ a ∷ after) first.fault (all_stop early before a after undecided))
 
 pub limit_stopped : limit_stops

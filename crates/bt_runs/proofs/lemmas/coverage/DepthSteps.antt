@@ -5,7 +5,7 @@ use Rattle.bt_bed.specs.model.Feature.{Feature, interval_of, intervals_of, Inter
 use Rattle.bt_bed.specs.model.Genome.{Entry, genome_names}
 use Rattle.bt_bed.specs.model.Order.{rank_order, rank_of}
 use Rattle.bt_bed.specs.calls.Orders.{AreDistinct}
-use Rattle.bt_bed.specs.model.Sorted.{has_records}
+use Rattle.bt_bed.specs.model.Sorted.{has_records, comes_first}
 use Rattle.bt_bed.specs.declared.record.strand.Strand.{Strand}
 use Rattle.bt_bed.specs.model.Levels.{Level}
 use Rattle.bt_bed.specs.calls.LevelScan.{Begun, begun_after, ended_after, next_begun, next_ended}
@@ -13,7 +13,6 @@ use Rattle.bt_runs.specs.model.Depth.{DepthInterval, counted_on, coverage, depth
 use Rattle.bt_runs.specs.inside.Coverage.{Known, depth_walk, known_by, levels_by, levels_left, levels_on, bare_of, depths_left, known_seen, place_seen, seen, CountAnswers, OpenAt, depth_text, still_open}
 use Rattle.bt_runs.proofs.lemmas.order.ByChromosome.{Divides, Owes, Written, found_at, size_there, size_ranked, found_entry, name_at}
 use Rattle.bt_runs.proofs.lemmas.coverage.OpenLemmas.{counted_elsewhere, counted_append, counted_none, bare_levels, known_at, known_first, known_next, left_end, settled_and_left, settled_at, settled_end, settled_first, settled_next, with_counted, across_known, none_open, all_open, walk_depth}
-use Rattle.bt_runs.specs.model.Gaps.{is_over_at}
 use Rattle.bt_runs.specs.calls.Complementing.{AreInGenomeOrder}
 use Rattle.bt_runs.proofs.lemmas.definitions.Standing.{compare_same, apart, found}
 use Rattle.bt_runs.proofs.lemmas.Lists.{filter_map_all, filter_map_none}
@@ -102,8 +101,8 @@ module _ (zeros : Bool) (strand : Option Strand) where
       picks = λ last. grind (arith, filter-append);
       elsewhere = λ entry past r other.
           ap (λ l. levels_on entry.name (levels_of (depth_of zeros l) entry.length)) (counted_append strand entry.name past (r ∷ []) ∙ ap (λ l. counted_on strand entry.name past ++ l) (counted_elsewhere strand entry.name r other) ∙ append-nil (counted_on strand entry.name past));
-      is_before = λ last entry past less. filter_map_all (depth_on entry.name) (is_ended_by (genome_names entries) last) (levels_of (depth_of zeros (counted_on strand entry.name past)) entry.length) (λ l. ap (λ o. is_over_at o (nat_lt l.stop last.start)) less);
-      is_behind = λ last entry past greater none. filter_map_none (depth_on entry.name) (is_ended_by (genome_names entries) last) (levels_of (depth_of zeros (counted_on strand entry.name past)) entry.length) (λ l. ap (λ o. is_over_at o (nat_lt l.stop last.start)) greater);
+      is_before = λ last entry past less. filter_map_all (depth_on entry.name) (is_ended_by (genome_names entries) last) (levels_of (depth_of zeros (counted_on strand entry.name past)) entry.length) (λ l. ap (λ o. comes_first o (nat_lt l.stop last.start)) less);
+      is_behind = λ last entry past greater none. filter_map_none (depth_on entry.name) (is_ended_by (genome_names entries) last) (levels_of (depth_of zeros (counted_on strand entry.name past)) entry.length) (λ l. ap (λ o. comes_first o (nat_lt l.stop last.start)) greater);
       none = grind (arith, counted_none, bare_levels, settled_first, known_first);
       next = own_next;
       divides = divides_own;

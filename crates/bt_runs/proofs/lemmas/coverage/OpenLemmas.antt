@@ -1,9 +1,9 @@
 -- The records that are open at a position and at later ones, how many of them cover a position, and their ends, counted by every test of an end.
 use Rattle.bt_lines.proofs.Std.{common_steps, ◌≡◌, ℕ, ◌+◌, ◌<◌, ◌≤◌, inl, inr, List, [], ◌∷◌, ◌++◌, refl, sym, ap, ◌∙◌, arith, All, filter, length, nat_le, not, false, cond, ◌&&◌, nat_lt, slice_index_or, subst, Bool, MatchBool, true, IfSome, IsSome, Option, Some, None, cases_Bool, cases_lt, lt-ltb, le-ltb, le-leb, map-append, length-filter_both, All-filter, All-head, All-nil, All-tail, All-weaker, All-push, filter-append, filter_agree, filter_passes, IsUpperBound, PopsGreatest, IsPermutation, nat_cmp, IsPermutation-map, sum_by-IsPermutation, length-filter, ap₂, length-append, map, bytes_eq, or_parts, ◌-◌, append_assoc, append-nil, zero, suc}
-use Rattle.bt_bed.specs.model.Feature.{Span, Feature, intervals_of}
+use Rattle.bt_bed.specs.model.Feature.{Span, Feature, intervals_of, covers}
 use Rattle.bt_bed.specs.model.Levels.{Level}
 use Rattle.bt_bed.specs.calls.LevelScan.{Begun, begun_after, ended_after, level_ended_at, begun_at, goes_on_with, levels_from}
-use Rattle.bt_runs.specs.model.Depth.{covers, depth_at, counted_on, depth_of, reported, levels_of}
+use Rattle.bt_runs.specs.model.Depth.{depth_at, counted_on, depth_of, reported, levels_of}
 use Rattle.bt_runs.specs.calls.Covering.{cut_at, spans_open_at, begun_across}
 use Rattle.bt_runs.specs.inside.Coverage.{still_open, CountsFrom, IsLeastFirst, StartsBelow, ends_of, KeepsEnds, Known, known_by, levels_by, levels_left}
 use Rattle.std.specs.declared.cmp.Reverse.{Reverse}

@@ -1,7 +1,7 @@
 -- Lemmas on records whose starts don't fall.
 use Rattle.bt_lines.proofs.Std.{rules}
 use Rattle.bt_lines.proofs.Std.{◌≡◌, ℕ, ◌≤◌, inl, inr, Bool, true, cond, List, [], ◌∷◌, refl, sym, ◌∙◌, ltb, arith, filter, bytes_eq, and_parts, ◌<◌, ◌++◌, ap, append_assoc, flat_map, max, Decides, list_any, false≢true}
-use Rattle.bt_bed.specs.model.Feature.{Feature, intervals_of, Span}
+use Rattle.bt_bed.specs.model.Feature.{Feature, intervals_of, Span, record_covers}
 use Rattle.bt_bed.specs.model.Positions.{AreApartFrom, IsCovered}
 use Rattle.bt_bed.specs.calls.Orders.{ArePlaced, IsTotal}
 use Rattle.bt_bed.specs.model.Order.{Order}
@@ -10,7 +10,7 @@ use Rattle.bt_sweep.specs.calls.Held.{AreRising, AreRisingFrom}
 use Rattle.bt_sweep.specs.calls.Sweeping.{is_held}
 use Rattle.bt_bed.proofs.lemmas.StretchScans.{stretches_are_same, scan_finds}
 use Rattle.bt_sweep.specs.model.Hits.{hits, hits_among}
-use Rattle.bt_sweep.specs.model.Lines.{piece_line, has_position, is_left, pieces}
+use Rattle.bt_sweep.specs.model.Lines.{piece_line, is_left, pieces}
 use Rattle.bt_sweep.specs.calls.LineLaws.{IsLeft, pieces_are, pieces_only, spans_of}
 use Rattle.bt_sweep.specs.inside.Pieces.{free_after, gap_lines, lines_before}
 use Rattle.bt_sweep.specs.declared.hits.hit_rule.HitRule.{HitRule}
@@ -54,7 +54,7 @@ rising_held order a taken total placed =
 -- The pieces of a record are the stretches of the positions that are left of it, and the only list that
 -- is. A walk over those that hit it by their starts meets them in order.
 
-covers-Decides : (others : List Feature) (p : ℕ) → Decides (list_any (has_position p) others) (IsCovered (spans_of others) p)
+covers-Decides : (others : List Feature) (p : ℕ) → Decides (list_any (record_covers p) others) (IsCovered (spans_of others) p)
 covers-Decides [] p = (λ e. false≢true e, λ c. absurd c)
 covers-Decides (b ∷ others) p = grind (arith, (covers-Decides others p))
 

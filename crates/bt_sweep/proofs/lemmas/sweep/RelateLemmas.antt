@@ -7,7 +7,7 @@ use Rattle.bt_lines.specs.calls.Output.{Output}
 use Rattle.bt_lines.specs.declared.fault.Fault.{Fault}
 use Rattle.bt_bed.specs.model.Feature.{Feature}
 use Rattle.bt_bed.specs.declared.read.cursor.Cursor.{Ghosts as Cursor}
-use Rattle.bt_bed.specs.model.Sorted.{is_below_at}
+use Rattle.bt_bed.specs.model.Sorted.{comes_first}
 use Rattle.bt_bed.specs.model.Order.{Order}
 use Rattle.bt_bed.specs.calls.Orders.{IsTotal}
 use Rattle.bt_bed.proofs.lemmas.parse.NameLemmas.{name_ne}
@@ -29,7 +29,7 @@ lie_last name (x ∷ before) b on = lie_last name before b on.1
 
 module _ (order : Order) (total : IsTotal order) (a : Feature) (known : order.knows a.chrom ≡ true) (name : List ℕ) (compared : order.compare name a.chrom ≡ Less) where
   undecided_before : (b : Feature) → b.chrom ≡ name → decides order a b ≡ false
-  undecided_before b on = ap (λ (c : Ordering). not (is_below_at c b.start a.stop)) (ap (λ (c : List ℕ). order.compare c a.chrom) on ∙ compared)
+  undecided_before b on = ap (λ (c : Ordering). not (comes_first c (nat_lt b.start a.stop))) (ap (λ (c : List ℕ). order.compare c a.chrom) on ∙ compared)
 
   none_kept : (b : Feature) → b.chrom ≡ name → filter (is_held a) (b ∷ []) ≡ []
   none_kept b on = ap (λ (c : Bool). cond (c && ltb a.start b.stop) (b ∷ []) []) (name_ne a.chrom b.chrom (grind arith))

@@ -6,7 +6,7 @@ use Rattle.bt_lines.specs.model.Lines.{end_bytes}
 use Rattle.bt_lines.specs.declared.fault.Fault.{Fault}
 use Rattle.bt_seq.proofs.lemmas.Sam.{none_masked}
 use Rattle.bt_seq.specs.calls.MaskState.{Keeps, Masking, TakesSequenceLine, Waiting, WritesWaiting, WritesGiven, decides_line, decides_by, decides_up_to, is_stray, line_bytes, moved_to, passed, stays_as_given, with_owner, writes_at_once, Matched, matched_with, owner_of}
-use Rattle.bt_seq.specs.model.Masked.{ends_name}
+use Rattle.bt_bed.specs.model.BedLine.{ends_word}
 use Rattle.bt_seq.specs.declared.mask.MaskWant.TheVariants.{Line, Bed, Nothing}
 use Rattle.bt_seq.specs.declared.mask.matching.Owner.{Owner}
 use Rattle.bt_lines.specs.calls.Columns.{IsBefore, Lacks}
@@ -126,13 +126,13 @@ chosen_lanes f g h bytes fits tests lanes agrees = grind (arith, chosen, same_on
 -- Lemmas on the names that headers give.
 
 abbrev in_name : ℕ → Bool
-in_name byte = not (ends_name byte)
+in_name byte = not (ends_word byte)
 
 goes_on : (byte : ℕ) → (byte == 32) ≡ false → (byte == 9) ≡ false → in_name byte ≡ true
 goes_on byte space tab = rw (space, tab) refl
 
 -- bytes up to one that ends the name
-before_end : (xs ys : List ℕ) (last : ℕ) → Lacks 32 xs → Lacks 9 xs → ends_name last ≡ true → take_while in_name (xs ++ last ∷ ys) ≡ xs
+before_end : (xs ys : List ℕ) (last : ℕ) → Lacks 32 xs → Lacks 9 xs → ends_word last ≡ true → take_while in_name (xs ++ last ∷ ys) ≡ xs
 before_end [] ys last space tab ends = take_while-cons in_name last ys ∙ ap (λ b. cond (not b) (last ∷ take_while in_name ys) []) ends
 before_end (x ∷ xs) ys last space tab ends =
     take_while-cons in_name x (xs ++ last ∷ ys)

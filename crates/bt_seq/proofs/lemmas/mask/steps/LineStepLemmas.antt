@@ -1,6 +1,6 @@
 -- Lemmas on bases that are counted as far as records reach, and on what is held.
 use Rattle.bt_lines.proofs.Std.{◌≡◌, ℕ, suc, ◌+◌, ◌<◌, ◌≤◌, min, Bool, true, false, cond, ◌&&◌, ◌||◌, nat_le, nat_lt, length, List, [], ◌∷◌, ◌++◌, Option, Some, None, filter, refl, sym, ap, ◌∙◌, subst, arith, AllByRecursion, list_any, nat_tests, or_parts, not, Result, Ok, Err, append-nil, inl, inr, ◌⊎◌, is_none, is_some, option_map, length-map, cases_Bool, not-true, not-false}
-use Rattle.bt_bed.specs.model.Feature.{Feature}
+use Rattle.bt_bed.specs.model.Feature.{Feature, record_covers}
 use Rattle.bt_lines.specs.model.Lines.{max_number, end_bytes, TextLine}
 use Rattle.bt_seq.proofs.lemmas.definitions.MaskPrefixLemmas.{held_alone, chrom_of, decided_by_tags, masked_before}
 use Rattle.bt_seq.proofs.lemmas.Sam.{none_masked, next_left, own_in, own_tagged, tag_decides, tags, tags_of}
@@ -8,7 +8,7 @@ use Rattle.bt_bed.specs.calls.Stage.{given, with_first}
 use Rattle.bt_seq.specs.calls.MaskStage.{MaskStage, held_by, is_written_ahead, is_written_at_once, reached, reached_by, mask_want_of, with_line, held_for_line}
 use Rattle.bt_seq.specs.calls.MaskState.{Masking, line_bytes, TakesSequenceLine, Waiting, bytes_at_once, is_stray, may_grow, moved_to, writes_at_once, Matched, named, left_after}
 use Rattle.bt_seq.specs.calls.MaskSteps.{kept_line, IsOpen, MaskMovesTo, FailsWithLine, GivesNextLine, RefusesLine, TakesNextLine, bytes_with, may_need_memory}
-use Rattle.bt_seq.specs.model.Masked.{masked_from, masked_line, record_covers, masked_text, block_decides, items_if_last, own_records, SequenceLine, bases_up_to, is_sequence_header, line_decided, is_unnamed, bases_in, header_behind, line_behind, line_says, may_stand, name_in}
+use Rattle.bt_seq.specs.model.Masked.{masked_from, masked_line, masked_text, block_decides, items_if_last, own_records, SequenceLine, bases_up_to, is_sequence_header, line_decided, is_unnamed, bases_in, header_behind, line_behind, sequence_says, may_stand, name_in}
 use Rattle.bt_seq.specs.inside.Masking.{AreInRange, Counts, KnowsNext, decided_up_to}
 use Rattle.bt_seq.specs.inside.Window.{limit, Bounds, gone_on, no_bases}
 use Rattle.bt_seq.specs.declared.mask.mask_how.MaskHow.{MaskHow}
@@ -289,13 +289,13 @@ module _ (how : MaskHow) (full : Bool) (stage : MaskStage) (old : Masking) (s : 
     -- what a line says, and where the engine goes
     record Goes : Type 0 where
       item : SequenceLine
-      says : line_says full (reached stage) line ≡ Ok (Some item)
+      says : sequence_says full (reached stage) line ≡ Ok (Some item)
       moved : Moved item (moved_to old line.text)
       kept : kept_line item ≡ record { text = line.text; ending = line.ending }
       fine : is_stray old line.text ≡ false
 
     record Strays : Type 0 where
-      says : line_says full (reached stage) line ≡ Err TextBeforeHeader
+      says : sequence_says full (reached stage) line ≡ Err TextBeforeHeader
       stray : is_stray old line.text ≡ true
 
     header_goes : is_sequence_header line.text ≡ true → Goes
@@ -314,7 +314,7 @@ module _ (how : MaskHow) (full : Bool) (stage : MaskStage) (old : Masking) (s : 
     stray_is : is_sequence_header line.text ≡ false → is_stray old line.text ≡ (is_unnamed names && nat_lt 0 (length line.text))
     stray_is e = grind (arith, last_name_none)
 
-    plain_says : is_sequence_header line.text ≡ false → line_says full (reached stage) line ≡ cond (may_stand names line.text) (Ok (Some plain_item)) (Err TextBeforeHeader)
+    plain_says : is_sequence_header line.text ≡ false → sequence_says full (reached stage) line ≡ cond (may_stand names line.text) (Ok (Some plain_item)) (Err TextBeforeHeader)
     plain_says e = ap (λ b. cond b (Ok (Some (header_behind full (reached stage) line))) (cond (may_stand names line.text) (Ok (Some plain_item)) (Err TextBeforeHeader))) e
 
     plain_goes : is_sequence_header line.text ≡ false → (b : Bool) → may_stand names line.text ≡ b → Goes ⊎ Strays

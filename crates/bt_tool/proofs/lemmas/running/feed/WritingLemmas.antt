@@ -10,7 +10,7 @@ use Rattle.bt_bed.specs.model.Genome.{Entry}
 use Rattle.bt_tool.specs.model.Report.{Behaviour, behaviour_of}
 use Rattle.bt_tool.specs.calls.Inputs.{HandsUpTo, Holds, OfBoth}
 use Rattle.bt_tool.proofs.lemmas.running.members.CursorLemmas.{IsWhole}
-use Rattle.bt_tool.specs.model.Written.{Report}
+use Rattle.bt_bed.specs.model.Meeting.{Report}
 use Rattle.bt_tool.specs.calls.Run.{IsFaultButWrite, IsOfInput, IsPutTo, IsReported, IsWithin, ReadsNoFurther, TellsInput, WritesBy}
 use Rattle.bt_tool.specs.declared.planning.plan_type.Command.{Command}
 use Rattle.bt_lines.specs.calls.Reader.{CutsOff, Hands, bytes_taken, end_told}

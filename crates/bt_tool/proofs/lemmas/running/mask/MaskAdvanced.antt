@@ -23,7 +23,7 @@ use Rattle.bt_bed.specs.calls.Stage.{Follows, Stage, given}
 use Rattle.bt_seq.specs.calls.MaskStage.{SayEach, GoesOn, MaskStage, reached}
 use Rattle.bt_seq.specs.calls.MaskState.{Masking}
 use Rattle.bt_seq.specs.calls.MaskSteps.{MaskMovesTo}
-use Rattle.bt_seq.specs.model.Masked.{Reached, SequenceLine, line_says, sequence_format}
+use Rattle.bt_seq.specs.model.Masked.{Reached, SequenceLine, sequence_says, sequence_format}
 use Rattle.bt_tool.specs.inside.Feed.{member_items, HasTaken}
 use Rattle.bt_tool.specs.model.Written.{is_fasta_kind}
 use Rattle.bt_tool.specs.declared.loops.masking.MaskRun.{MaskRun}
@@ -170,9 +170,9 @@ module _ {A B : Type 0} {source_a : Source A} {source_b : Source B} {start : Mas
 
     -- they were taken, and one more line, which is at fault
     module _ (line : TextLine) (more : List TextLine) (parts : buffered_in lines ≡ (texts ++ line ∷ []) ++ more) (numbered : AreNumbered (suc (lines_given lines)) (texts ++ line ∷ [])) (are : TakenLines lines consumed (length (texts ++ line ∷ [])))
-        (none : final.inputs.waiting ≡ None) {kind : Kind} (says : line_says start.mask.full (reached final) line ≡ Err kind) {fault : FaultValue} (is : fault ≡ fault_at_line First line.number kind) where
-      says_now : line_says start.mask.full (state_behind (sequence_format start.mask.full) at items) line ≡ Err kind
-      says_now = ap (λ (r : Reached). line_says start.mask.full r line) reached_now ∙ says
+        (none : final.inputs.waiting ≡ None) {kind : Kind} (says : sequence_says start.mask.full (reached final) line ≡ Err kind) {fault : FaultValue} (is : fault ≡ fault_at_line First line.number kind) where
+      says_now : sequence_says start.mask.full (state_behind (sequence_format start.mask.full) at items) line ≡ Err kind
+      says_now = ap (λ (r : Reached). sequence_says start.mask.full r line) reached_now ∙ says
 
       is_now : fault ≡ fault_at_line (input_of start.lines) line.number kind
       is_now = is ∙ ap (λ (i : Input). fault_at_line i line.number kind) (sym s.first_is)

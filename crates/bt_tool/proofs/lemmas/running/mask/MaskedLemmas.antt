@@ -14,7 +14,7 @@ use Rattle.bt_bed.specs.calls.Reading.{MemberReader, room, ahead_in, first_from,
 use Rattle.bt_bed.specs.calls.Stage.{given}
 use Rattle.bt_seq.specs.calls.MaskStage.{MaskStage, reached, reached_by, mask_want_of, with_bed_ended, with_lines_ended}
 use Rattle.bt_seq.specs.calls.MaskState.{Masking, left_after}
-use Rattle.bt_seq.specs.model.Masked.{Reached, SequenceLine, line_decided, masked_line, names_of_sequences, no_sequence, line_says, sequence_format}
+use Rattle.bt_seq.specs.model.Masked.{Reached, SequenceLine, line_decided, masked_line, names_of_sequences, no_sequence, sequence_says, sequence_format}
 use Rattle.bt_seq.specs.declared.mask.MaskWant.{MaskWant}
 use Rattle.bt_tool.specs.declared.loops.masking.MaskRun.{MaskRun}
 use Rattle.bt_tool.specs.inside.Feed.{IsKeptBelow, member_items}
@@ -101,7 +101,7 @@ kept_filled {S} {State} device now new r was filled = grind arith
 none_ahead : {S State : Type 0} (now : MemberReader S Feature State) (r : Feature) → now.buffered ≡ [] → item_ahead now ≡ Some r → ⊥
 none_ahead now r none was = let apart : None ≡ Some r = sym (ahead_first now ∙ ap first_of none) ∙ was in cc
 
-pub wrong_first : (full : Bool) (state : Reached) (line : TextLine) (kind : Kind) → line_says full state line ≡ Err kind → is_fasta_kind kind ≡ true
+pub wrong_first : (full : Bool) (state : Reached) (line : TextLine) (kind : Kind) → sequence_says full state line ≡ Err kind → is_fasta_kind kind ≡ true
 wrong_first full state line kind e = rw (wrong_is_text full state line kind e) refl
 
 -- a line that the next record decides stays as it is, whatever follows

@@ -32,7 +32,7 @@ use Rattle.bt_lines.specs.declared.fault.Kind.TheVariants.{TextBeforeHeader}
 use Rattle.bt_bed.proofs.lemmas.read.good.ReadingLemmas.{near_pass, drops_pass, left_numbered, some_bytes, Going, going_end, going_start, going_unread}
 use Rattle.bt_bed.specs.model.Good.{Good, Member, good_from}
 use Rattle.bt_seq.specs.calls.MaskStage.{SayEach}
-use Rattle.bt_seq.specs.model.Masked.{Reached, SequenceLine, line_says, sequence_format}
+use Rattle.bt_seq.specs.model.Masked.{Reached, SequenceLine, sequence_says, sequence_format}
 use Rattle.bt_tool.specs.inside.MaskLoop.{line_members}
 use Rattle.bt_tool.proofs.lemmas.running.feed.WritingLemmas.{lines_on, up_to}
 
@@ -77,7 +77,7 @@ blocks_taken device now new count records are comes takes = grind (arith, consum
 
 -- Lemmas on a reader of lines as one of lines of sequences.
 
-pub wrong_is_text : (full : Bool) (reached : Reached) (line : TextLine) (kind : Kind) → line_says full reached line ≡ Err kind → kind ≡ TextBeforeHeader
+pub wrong_is_text : (full : Bool) (reached : Reached) (line : TextLine) (kind : Kind) → sequence_says full reached line ≡ Err kind → kind ≡ TextBeforeHeader
 wrong_is_text full reached line kind e = grind arith
 
 -- ---- lines that each say a line of a sequence
@@ -204,7 +204,7 @@ module _ {S : Type 0} (device : Source S) (full : Bool) where
 
   -- lines were taken, of which the last one is at fault
   module _ (old : MemberReader S SequenceLine Reached) (past : List (Member SequenceLine)) (reached : Reached) (lines new : LineReader S) (g : PassesMembers device old past (line_members full reached lines))
-      (before : List TextLine) (line : TextLine) (more : List TextLine) (items : List SequenceLine) (say : SayEach full reached before items) (kind : Kind) (says : line_says full (state_behind (sequence_format full) reached items) line ≡ Err kind)
+      (before : List TextLine) (line : TextLine) (more : List TextLine) (items : List SequenceLine) (say : SayEach full reached before items) (kind : Kind) (says : sequence_says full (state_behind (sequence_format full) reached items) line ≡ Err kind)
       (parts : buffered_in lines ≡ (before ++ line ∷ []) ++ more) (numbered : AreNumbered (suc (lines_given lines)) (before ++ line ∷ [])) (consumed : ConsumedLines) (are : TakenLines lines consumed (length (before ++ line ∷ [])))
       (takes : TakesLines device lines consumed new) (fault : FaultValue) (is : fault ≡ fault_at_line (input_of old.below) line.number kind) where
     abbrev pub refused : MemberReader S SequenceLine Reached

@@ -3,7 +3,7 @@ use Rattle.bt_lines.proofs.Std.{ℕ, ◌||◌, List, is_none, ◌≡◌, suc, �
 use Rattle.bt_lines.specs.model.Fault.{FaultValue}
 use Rattle.bt_lines.specs.calls.Faults.{no_memory, write_failed}
 use Rattle.bt_bed.specs.model.Good.{Good, items_in, or_else, Format, Member, good, good_handed}
-use Rattle.bt_bed.specs.model.Meeting.{Met, Rule, join_report, written}
+use Rattle.bt_bed.specs.model.Meeting.{Report, Rule, join_report, written}
 use Rattle.bt_tool.specs.inside.Pair.{JoinDef, MayCome, Pair, Serves, PairEnds, FirstStops, InputsEnd, LimitStops, RestStops, SecondFails, SecondStops, Why}
 use Rattle.bt_lines.specs.declared.device.Source.{Ghosts as Source}
 use Rattle.bt_lines.proofs.lemmas.reader.block.ReadsLemmas.{some_is}
@@ -12,10 +12,9 @@ use Rattle.bt_lines.specs.calls.Output.{Output, block_size}
 use Rattle.bt_lines.specs.calls.Reader.{input_of, lines_given, source_of}
 use Rattle.bt_lines.specs.declared.fault.Input.TheVariants.{First, Second}
 use Rattle.bt_bed.specs.calls.Reading.{IsBeyond, MemberReader, good_coming}
-use Rattle.bt_bed.proofs.lemmas.Definitions.{all_stop, met_fault_stop, met_lines, written_past, written_stop}
+use Rattle.bt_bed.proofs.lemmas.Definitions.{all_stop, met_fault_stop, met_output, written_past, written_stop}
 use Rattle.bt_tool.specs.model.Report.{Behaviour, or_empty}
 use Rattle.bt_tool.specs.calls.Inputs.{HandsUpTo, Holds, OfBoth, Reads, ReadsIf}
-use Rattle.bt_tool.specs.model.Written.{met_report}
 use Rattle.bt_tool.specs.calls.Run.{WritesBy, IsFaultButWrite, IsReported, IsWithin, ReadsNoFurther, TellsDevice, TellsInput}
 use Rattle.bt_tool.proofs.lemmas.running.members.CursorLemmas.{Came, BeginsAt, at_whole, came_cut, came_whole, is_known, says_fault}
 use Rattle.bt_tool.specs.inside.Feed.{PutsLines, member_items, HasFaultBehind}
@@ -24,7 +23,7 @@ use Rattle.bt_tool.proofs.lemmas.running.members.SeenLemmas.{PutsFront, puts_fro
 
 module _ {X Y : Type 0} (join : JoinDef X Y) where
   -- what the good members of the second input, and its fault, make of the members of the first
-  abbrev pub rule_of : List X → Good Y → Rule X ℕ FaultValue
+  abbrev pub rule_of : List X → Good Y → Rule X
   rule_of all second = record {
     decided = λ x. is_none second.fault || join.decided x (items_in second);
     lines = λ x. join.bytes x (items_in second);
@@ -33,11 +32,11 @@ module _ {X Y : Type 0} (join : JoinDef X Y) where
   }
 
   -- what is written of two inputs, and the fault that is reported
-  abbrev pub met_whole : Good X → Good Y → Met ℕ FaultValue
+  abbrev pub met_whole : Good X → Good Y → Report
   met_whole first second = join_report (rule_of (items_in first) second) (items_in first) first.fault
 
   -- the same, by what the first meets of the second
-  abbrev pub met_by : Good X → Good Y → Met ℕ FaultValue
+  abbrev pub met_by : Good X → Good Y → Report
   met_by first second = met_whole first (join.limited (items_in first) second)
 
 -- Lemmas from how a run over two readers of members ends to the report on how the inputs meet.
@@ -70,7 +69,7 @@ module _ {S : Type 0} (device : Source S) where
 module _ {X Y : Type 0} (join : JoinDef X Y) where
   -- what the lines and the fault of a meeting are
   abbrev MeetsAs : Good X → Good Y → List ℕ → Option FaultValue → Type 0
-  MeetsAs first second bytes fault = ((met_whole join first second).lines ≡ bytes) × ((met_whole join first second).fault ≡ fault)
+  MeetsAs first second bytes fault = ((met_whole join first second).output ≡ bytes) × ((met_whole join first second).fault ≡ fault)
 
   -- these members are decided, and have these bytes
   abbrev HereAs : Good Y → List X → List ℕ → Type 0
@@ -82,13 +81,13 @@ module _ {X Y : Type 0} (join : JoinDef X Y) where
     meets_stop a rest fault is told undecided_by =
         let made = rule_of join (items_in first) second in
         let undecided : made.decided a ≡ false = or_from (is_none second.fault) (join.decided a (items_in second)) (ap is_none told) undecided_by in (
-          met_lines made (items_in first) first.fault ∙ ap (written made) is ∙ written_stop made xs a rest here.0 undecided ∙ here.1,
+          met_output made (items_in first) first.fault ∙ ap (written made) is ∙ written_stop made xs a rest here.0 undecided ∙ here.1,
           met_fault_stop made (items_in first) first.fault (ap (list_all made.decided) is ∙ all_stop made xs a rest undecided) ∙ told,
         )
 
     -- whatever comes after them
-    meets_front : (rest : List X) → items_in first ≡ xs ++ rest → (more : List ℕ) × ((met_whole join first second).lines ≡ bytes ++ more)
-    meets_front rest is = grind (arith, (met_lines (rule_of join (items_in first) second) (items_in first) first.fault), (written_past (rule_of join (items_in first) second) xs rest here.0))
+    meets_front : (rest : List X) → items_in first ≡ xs ++ rest → (more : List ℕ) × ((met_whole join first second).output ≡ bytes ++ more)
+    meets_front rest is = grind (arith, (met_output (rule_of join (items_in first) second) (items_in first) first.fault), (written_past (rule_of join (items_in first) second) xs rest here.0))
 
 module _ {Y : Type 0} where
   -- of two fronts of a list, that which lies on lower lines begins the other
@@ -330,12 +329,12 @@ module _ {A B X Y U V : Type 0} {join : JoinDef X Y} {pair : Pair A B X Y U V} {
     meets (inr (inr (inr stops))) = meets_limit stops.0 stops.1 stops.2
 
     reported : (before : List ℕ) → out.put ≡ Some before → InputsEnd join pair out w.written w.wrote.given w.wrote.ended first second fault → PutsLines out w.bytes grown
-        → IsReported (met_report (met_by join (good_one one) (good_two two))) before fault grown
+        → IsReported (met_by join (good_one one) (good_two two)) before fault grown
     reported before put end puts = let met = meets end in (sym met.1, puts before put ∙ ap (λ l. Some (before ++ l)) (sym met.0))
 
   -- what was written begins the report on the whole texts
   front_of : (first second : Handed) → Holds pair.source_a.left one_before first → Holds pair.source_b.left two_before second
-      → (more : List ℕ) × ((met_by join (good_one first) (good_two second)).lines ≡ w.bytes ++ more)
+      → (more : List ℕ) × ((met_by join (good_one first) (good_two second)).output ≡ w.bytes ++ more)
   front_of first_handed second_handed holds others =
       let one = holds.text in
       let two = others.text in
@@ -382,7 +381,7 @@ module _ {A B X Y U V : Type 0} {join : JoinDef X Y} {pair : Pair A B X Y U V} {
   named_by told e (inr (inr cut)) = inr (inl (some_is told write_failed (sym e ∙ cut.0), cut.1.sink_failed.0, cut.1.sink_failed.1))
 
   whole_by : (one two : Handed) (before : List ℕ) → CameOne fault one → CameTwo fault two → out.put ≡ Some before
-      → fault ≢ Some write_failed → fault ≢ Some no_memory → Because → IsReported (met_report (met_by join (good_one one) (good_two two))) before fault grown
+      → fault ≢ Some write_failed → fault ≢ Some no_memory → Because → IsReported (met_by join (good_one one) (good_two two)) before fault grown
   whole_by one two before came came_second put write memory (inl (end, puts, works)) = reported one two came came_second before put end puts
   whole_by one two before came came_second put write memory (inr (inl ran)) = absurd (memory ran.0)
   whole_by one two before came came_second put write memory (inr (inr cut)) = absurd (write cut.0)
@@ -398,7 +397,7 @@ module _ {A B X Y U V : Type 0} {join : JoinDef X Y} {pair : Pair A B X Y U V} {
 
     abbrev behaviour : Behaviour
     behaviour = record {
-      report = λ one two. met_report (met_by join (good_one one) (good_two (or_empty two)));
+      report = λ one two. (met_by join (good_one one) (good_two (or_empty two)));
       settles = λ two. settles (or_empty two);
       faults = λ lines. (good first_format First lines).fault;
       reaches = λ two. reaches (or_empty two);

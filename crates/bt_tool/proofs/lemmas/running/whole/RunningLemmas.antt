@@ -20,7 +20,8 @@ use Rattle.bt_bed.specs.model.Good.{good_from}
 use Rattle.bt_bed.specs.declared.order.genome.Genome.{Genome}
 use Rattle.bt_runs.specs.model.Depth.{settled_depths}
 use Rattle.bt_runs.specs.model.Gaps.{settled_gaps}
-use Rattle.bt_tool.specs.model.Written.{IsOneOf, Report}
+use Rattle.bt_bed.specs.model.Meeting.{Report}
+use Rattle.bt_tool.specs.model.Written.{IsOneOf}
 use Rattle.bt_tool.specs.calls.Run.{KnowsChromosomes, LacksChromosomes, ReadsChromosomes, IsFaultButWrite, IsOfInput, IsPutTo, IsWithin, ReadsNoFurther, TellsDevice, TellsInput, TellsInputIf, WritesBy, Runs, TellsOther, ShowsReport}
 use Rattle.bt_tool.specs.inside.Feed.{Flushes, FlushesAll, FlushFails, StaysFailed}
 use Rattle.bt_tool.specs.model.Report.{Inputs, behaviour_of, behaviour_on, chromosomes_of, report_of, report_on, answer_of, report, texts_of}
