@@ -27,7 +27,7 @@ one_more names from at name is below =
     let count : (at + 1) - from ≡ (at - from) + 1 = omega arith in
     let there : from + (at - from) ≡ at = omega arith in
     let here : get_or (drop from names) (at - from) name ≡ name =
-        get_or-drop from names (at - from) name ∙ ap (λ n. get_or names n name) there ∙ get_or_from_slice_get names at name name is in
+    get_or-drop from names (at - from) name ∙ ap (λ n. get_or names n name) there ∙ get_or_from_slice_get names at name name is in
     ap (λ n. order_text (take n (drop from names))) count
     ∙ ap order_text (take_more (drop from names) (at - from) name room)
     ∙ flat_map-append entry_text (take (at - from) (drop from names)) (get_or (drop from names) (at - from) name ∷ [])

@@ -75,6 +75,14 @@ at_drop xs at x is =
     drop-cons xs at x inside ∙ ap (λ y. y ∷ drop (suc at) xs) (get_or_from_slice_get xs at x x is)
     ∙ ap (λ n. x ∷ drop n xs) (sym (add-one at))
 
+-- whether all from a place on pass a test
+pub next_pass : {A : Type 0} (test : A → Bool) (xs : List A) (at : ℕ) (x : A) → slice_get xs at ≡ Some x → (b : Bool) → test x ≡ b
+    → list_all test (drop at xs) ≡ (b && list_all test (drop (at + 1) xs))
+next_pass test xs at x is b e = rw (at_drop xs at x is, e) refl
+
+pub last_pass : {A : Type 0} (test : A → Bool) (xs : List A) (at : ℕ) → length xs ≤ at → list_all test (drop at xs) ≡ true
+last_pass test xs at past = rw (drop_of_length-le xs past) refl
+
 module _ (names chroms : List (List ℕ)) (at : ℕ) where
   pub all_ascend : (least : ℕ) → length chroms ≤ at → ascends names least (drop at chroms) ≡ true
   all_ascend least past = rw (drop_of_length-le chroms past) refl

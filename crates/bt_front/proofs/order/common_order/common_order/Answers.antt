@@ -17,8 +17,11 @@ returns-then-place-next c =
 
 pub prove-unreachable-requires : goal.prove-unreachable-requires
 prove-unreachable-requires c =
-    omega (arith, rank_within (names_among (option_copied c.args.second)) c.name-name.result.now c.in-Some.place
-    (sym c.place_among.ensures ∙ c.in-Some.is))
+    omega (
+      arith,
+      rank_within (names_among (option_copied c.args.second)) c.name-name.result.now c.in-Some.place
+          (sym c.place_among.ensures ∙ c.in-Some.is),
+    )
 
 pub loop-at-preserved : goal.loop-at-preserved
 loop-at-preserved c =

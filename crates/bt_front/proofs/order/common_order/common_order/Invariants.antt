@@ -9,6 +9,6 @@ abbrev pub invariant-loop-at : goal.invariant-loop-at
 invariant-loop-at l = record {
   within : l.next ≤ length (names_among (option_copied l.second));
   text : option_map (λ names. l.text.items ++ order_text names)
-    (common_from (names_among (option_copied l.second)) l.next (drop l.at (names_in l.first)))
-    ≡ option_map order_text (common_names (names_in l.first) (names_among (option_copied l.second)));
+      (common_from (names_among (option_copied l.second)) l.next (drop l.at (names_in l.first)))
+      ≡ option_map order_text (common_names (names_in l.first) (names_among (option_copied l.second)));
 }

@@ -12,8 +12,11 @@ returns-in_default c =
 
 pub length-requires : goal.length-requires
 length-requires c =
-    omega (arith, rank_within (names_of c.args.genome.now) c.name.result.now c.in-Some.rank (sym c.rank.ensures ∙ c.in-Some.is),
-    length-map (entries c.args.genome.now) (λ (entry : Entry). entry.name))
+    omega (
+      arith,
+      rank_within (names_of c.args.genome.now) c.name.result.now c.in-Some.rank (sym c.rank.ensures ∙ c.in-Some.is),
+      length-map (entries c.args.genome.now) (λ (entry : Entry). entry.name),
+    )
 
 pub returns-then-length-extent : goal.returns-then-length-extent
 returns-then-length-extent c =

@@ -21,8 +21,11 @@ returns-then-rank-least c =
 
 pub prove-unreachable-requires : goal.prove-unreachable-requires
 prove-unreachable-requires c =
-    omega (arith, rank_within (names_of c.args.genome.now) c.name.result.now c.in-Some.rank (sym c.rank.ensures ∙ c.in-Some.is),
-    length-map (entries c.args.genome.now) (λ (entry : Entry). entry.name))
+    omega (
+      arith,
+      rank_within (names_of c.args.genome.now) c.name.result.now c.in-Some.rank (sym c.rank.ensures ∙ c.in-Some.is),
+      length-map (entries c.args.genome.now) (λ (entry : Entry). entry.name),
+    )
 
 pub loop-at-preserved : goal.loop-at-preserved
 loop-at-preserved c =
