@@ -1,3 +1,4 @@
 -- Lemmas by theme.
 pub mod Given
+pub mod order
 pub mod survey

@@ -33,12 +33,19 @@
 
 #[cfg(test)]
 mod example;
+mod order;
 mod survey;
 #[cfg(test)]
 mod tests;
+mod verdict;
 mod words;
 
+pub use order::common_order::common_order;
+pub use survey::Survey;
 pub use survey::chromosomes::{Chromosomes, Extent};
 pub use survey::oddity::{OddLine, Oddity};
+pub use survey::records_seen::RecordsSeen;
+pub use verdict::counts::lists_hits;
+pub use verdict::reason::{InOrderOf, Reason};
 pub use words::Asked;
 pub use words::word_reason::WordReason;

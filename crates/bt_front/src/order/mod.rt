@@ -1,0 +1,6 @@
+//! Orders of chromosomes that fit the inputs.
+
+pub(crate) mod common_order;
+pub(crate) mod fitting;
+#[cfg(test)]
+pub(crate) mod tests;
