@@ -33,11 +33,14 @@
 
 #[cfg(test)]
 mod example;
+mod stream;
 mod survey;
 #[cfg(test)]
 mod tests;
 mod words;
 
+pub use stream::keeping::Keeping;
+pub use stream::pouring::{Unpoured, pour};
 pub use survey::chromosomes::{Chromosomes, Extent};
 pub use survey::oddity::{OddLine, Oddity};
 pub use words::Asked;
