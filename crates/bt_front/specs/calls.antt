@@ -2,3 +2,4 @@
 pub mod Bytes
 pub mod Chromosomes
 pub mod Orders
+pub mod Stream

@@ -34,6 +34,7 @@
 #[cfg(test)]
 mod example;
 mod order;
+mod stream;
 mod survey;
 #[cfg(test)]
 mod tests;
@@ -42,6 +43,8 @@ mod words;
 
 pub use order::common_order::common_order;
 pub use survey::Survey;
+pub use stream::keeping::Keeping;
+pub use stream::pouring::{Unpoured, pour};
 pub use survey::chromosomes::{Chromosomes, Extent};
 pub use survey::oddity::{OddLine, Oddity};
 pub use survey::records_seen::RecordsSeen;

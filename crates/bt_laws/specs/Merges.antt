@@ -1,6 +1,6 @@
 -- What a merge keeps, and the order of its runs.
 use Rattle.std.specs.Prelude.{◌≡◌, ℕ, ◌≤◌, List, ◌++◌, filter, length, map, Option, Some, option_map}
-use Rattle.bt_bed.specs.model.Feature.{Feature, is_strand, interval_of, intervals_of}
+use Rattle.bt_bed.specs.model.Feature.{Feature, is_same_strand, interval_of, intervals_of}
 use Rattle.bt_bed.specs.calls.Orders.{AreNonEmpty, ArePlaced, IsTotal}
 use Rattle.bt_bed.specs.declared.record.strand.Strand.{Strand}
 use Rattle.bt_runs.specs.model.Merged.{merged_runs, runs_of_strand, settled_strand_runs, strand_runs, StrandRun, is_in, places_of}
@@ -24,7 +24,7 @@ one_run_is_kept =
 abbrev pub strands_stay_in_order : Type 0
 strands_stay_in_order =
     (gap : ℕ) (records : List Feature) (strand : Strand) → AreMergeable records
-    → filter (λ item. is_strand item.strand strand) (strand_runs gap records)
+    → filter (λ item. is_same_strand item.strand strand) (strand_runs gap records)
     ≡ runs_of_strand gap records strand
 
 -- the settled runs and the kept ones are all

@@ -9,7 +9,7 @@ use Rattle.bt_bed.specs.model.Good.{Good, Member, items_in}
 use Rattle.bt_bed.specs.model.Meeting.{Rule, join_report, written, Report}
 use Rattle.bt_bed.specs.model.Order.{Order, rank_order}
 use Rattle.bt_bed.specs.calls.Orders.{IsTotal, ArePlaced}
-use Rattle.bt_sweep.specs.model.Hits.{decided, is_held, limited, decides, hits}
+use Rattle.bt_sweep.specs.model.Hits.{decided, is_held, within_limit, decides, is_hit}
 use Rattle.bt_sweep.specs.model.Lines.{intersect, intersect_met, sweep_rule}
 use Rattle.bt_sweep.specs.calls.LineLaws.{subtract}
 use Rattle.bt_sweep.specs.declared.hits.hit_rule.HitRule.{HitRule}
@@ -52,7 +52,7 @@ limit_stops =
     → ((front rest : List (Member Feature)) → past ≡ front ++ rest
     → HoldsEnough order most (items_in first) (map (λ m. m.item) front))
     → HoldsTooMany order most before a (map (λ m. m.item) (past ++ m ∷ []))
-    → intersect_met order shape rule first (limited order (Some most) (items_in first) second)
+    → intersect_met order shape rule first (within_limit order (Some most) (items_in first) second)
     ≡ record {
       lines = intersect shape rule before (map (λ m. m.item) (past ++ m ∷ []));
       fault = Some (fault_at_line Second m.line TooManyHeld);
@@ -64,7 +64,7 @@ limit_is_kept =
     (order : Order) (most : ℕ) (first : List Feature) (second : Good Feature)
     → ((front rest : List (Member Feature)) → second.members ≡ front ++ rest
     → HoldsEnough order most first (map (λ m. m.item) front))
-    → limited order (Some most) first second ≡ second
+    → within_limit order (Some most) first second ≡ second
 
 -- Laws of what a sweep takes, and of what it writes early.
 
@@ -97,8 +97,8 @@ decided_stays = (order : Order) (a : Feature) (bs more : List Feature)
 -- without a fraction it doesn't matter whether it is required of both
 abbrev pub both_of_nothing : Type 0
 both_of_nothing = (both same_strand : Bool) (a b : Feature)
-    → hits (record { billionths = 0; both = both; same_strand = same_strand }) a b
-    ≡ hits (record { billionths = 0; both = false; same_strand = same_strand }) a b
+    → is_hit (record { billionths = 0; both = both; same_strand = same_strand }) a b
+    ≡ is_hit (record { billionths = 0; both = false; same_strand = same_strand }) a b
 
 -- what the first good records of the second input make of them
 abbrev pub early_rule : Order → Shape → HitRule → List Feature → Rule Feature
@@ -185,7 +185,7 @@ three first next last fault = record {
 abbrev pub met_holding : Shape → ℕ → Good Feature → Good Feature → Report
 met_holding shape most first second =
     intersect_met only_chr1 shape any_overlap first
-    (limited only_chr1 (Some most) (items_in first) second)
+    (within_limit only_chr1 (Some most) (items_in first) second)
 
 -- Of 0 to 100 and 50 to 60 the first has three records within it: the third is too many for two,
 -- and not for three.

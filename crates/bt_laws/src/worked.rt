@@ -16,7 +16,7 @@ use bt_tool::Command;
 
 /// Strands with -s (bedtools manual, intersect and subtract, option -s): `+` and `-` hit only their own, and records
 /// without a strand one another.
-#[tactic(auto, unfolding(bt_tool::specs::model::Report::report_of, bt_lines::specs::model::Lines::lines_from, bt_lines::specs::model::Lines::value_of, bt_bed::specs::model::Good::good_from, bt_bed::specs::model::Good::line_says, bt_bed::specs::model::BedLine::record_of, bt_sweep::specs::model::Lines::lines_for, bt_sweep::specs::model::Hits::hits, bt_sweep::specs::model::Hits::strands_agree, bt_sweep::specs::model::Hits::is_enough, bt_sweep::specs::model::Hits::has_fraction, bt_bed::specs::calls::Stretches::stretches_from, bt_bed::specs::calls::Stretches::with_position, bt_sweep::specs::model::Lines::pieces))]
+#[tactic(auto, unfolding(bt_tool::specs::model::Report::report_of, bt_lines::specs::model::Lines::lines_from, bt_lines::specs::model::Lines::value_of, bt_bed::specs::model::Good::good_after, bt_bed::specs::model::Good::line_says, bt_bed::specs::model::BedLine::record_of, bt_sweep::specs::model::Lines::lines_for, bt_sweep::specs::model::Hits::is_hit, bt_sweep::specs::model::Hits::strands_agree, bt_sweep::specs::model::Hits::is_enough, bt_sweep::specs::model::Hits::has_fraction, bt_bed::specs::calls::Stretches::stretches_from, bt_bed::specs::calls::Stretches::with_position, bt_sweep::specs::model::Lines::pieces))]
 pub fn strands()
     ensures both_plus { Writes (Command.Intersect Shape.Cut on_one_strand None)
         (two_texts (codes "c\t0\t10\ta\t0\t+\n") (codes "c\t5\t8\tb\t0\t+\n")) (codes "c\t5\t8\ta\t0\t+\n") }
@@ -44,7 +44,7 @@ pub fn strands()
 
 /// Marks of segments (SAM specification, section 1.4, FLAG: 0x40 the first segment of the template, 0x80 the last one, 0x10
 /// reversed, 0x4 unmapped), and what CIGARs cover (there, field 6).
-#[tactic(auto, unfolding(bt_tool::specs::model::Report::report_of, bt_lines::specs::model::Lines::lines_from, bt_lines::specs::model::Lines::value_of, bt_bed::specs::model::Good::good_from, bt_bed::specs::model::Good::line_says, bt_bed::specs::model::BedLine::record_of, bt_seq::specs::model::Alignment::alignment_of, bt_seq::specs::model::Alignment::fields_say, bt_seq::specs::model::Alignment::blocks_of, bt_seq::specs::model::Alignment::operations_in))]
+#[tactic(auto, unfolding(bt_tool::specs::model::Report::report_of, bt_lines::specs::model::Lines::lines_from, bt_lines::specs::model::Lines::value_of, bt_bed::specs::model::Good::good_after, bt_bed::specs::model::Good::line_says, bt_bed::specs::model::BedLine::record_of, bt_seq::specs::model::Alignment::alignment_of, bt_seq::specs::model::Alignment::fields_say, bt_seq::specs::model::Alignment::blocks_of, bt_seq::specs::model::Alignment::operations_in))]
 pub fn alignments()
     ensures neither { IsNamed (codes "0") (codes "r") (codes "+") }
     ensures first { IsNamed (codes "64") (codes "r/1") (codes "+") }
@@ -78,7 +78,7 @@ pub fn alignments()
 
 /// How far the second input is read, also if its next line is at fault: up to the first record at the end of all records of
 /// the first or after it. If there is none, it is read up to the line at fault, or all of it.
-#[tactic(auto, unfolding(bt_tool::specs::model::Report::report_of, bt_lines::specs::model::Lines::lines_from, bt_lines::specs::model::Lines::value_of, bt_bed::specs::model::Good::good_from, bt_bed::specs::model::Good::line_says, bt_bed::specs::model::BedLine::record_of, bt_sweep::specs::model::Lines::lines_for, bt_sweep::specs::model::Hits::hits, bt_sweep::specs::model::Hits::strands_agree, bt_sweep::specs::model::Hits::is_enough, bt_sweep::specs::model::Hits::has_fraction))]
+#[tactic(auto, unfolding(bt_tool::specs::model::Report::report_of, bt_lines::specs::model::Lines::lines_from, bt_lines::specs::model::Lines::value_of, bt_bed::specs::model::Good::good_after, bt_bed::specs::model::Good::line_says, bt_bed::specs::model::BedLine::record_of, bt_sweep::specs::model::Lines::lines_for, bt_sweep::specs::model::Hits::is_hit, bt_sweep::specs::model::Hits::strands_agree, bt_sweep::specs::model::Hits::is_enough, bt_sweep::specs::model::Hits::has_fraction))]
 pub fn reaches()
     ensures decided { Reaches (codes "c\t0\t10\n") (codes "c\t2\t4\nc\t50\t60\nc\t70\t80\n") 14 }
     ensures at_its_end { Reaches (codes "c\t0\t10\n") (codes "c\t2\t4\nc\t9\t60\nc\t10\t80\nc\t90\t91\n") 21 }
@@ -97,7 +97,7 @@ pub fn reaches()
 {}
 
 /// Hits and their shapes (bedtools manual, intersect).
-#[tactic(auto, unfolding(bt_tool::specs::model::Report::report_of, bt_lines::specs::model::Lines::lines_from, bt_lines::specs::model::Lines::value_of, bt_bed::specs::model::Good::good_from, bt_bed::specs::model::Good::line_says, bt_bed::specs::model::BedLine::record_of, bt_sweep::specs::model::Lines::lines_for, bt_sweep::specs::model::Hits::hits, bt_sweep::specs::model::Hits::strands_agree, bt_sweep::specs::model::Hits::is_enough, bt_sweep::specs::model::Hits::has_fraction, bt_bed::specs::model::Genome::genome_from, bt_bed::specs::model::Genome::entry_of))]
+#[tactic(auto, unfolding(bt_tool::specs::model::Report::report_of, bt_lines::specs::model::Lines::lines_from, bt_lines::specs::model::Lines::value_of, bt_bed::specs::model::Good::good_after, bt_bed::specs::model::Good::line_says, bt_bed::specs::model::BedLine::record_of, bt_sweep::specs::model::Lines::lines_for, bt_sweep::specs::model::Hits::is_hit, bt_sweep::specs::model::Hits::strands_agree, bt_sweep::specs::model::Hits::is_enough, bt_sweep::specs::model::Hits::has_fraction, bt_bed::specs::model::Genome::genome_from, bt_bed::specs::model::Genome::entry_of))]
 pub fn hits()
     ensures bookended { Writes (Command.Intersect Shape.Cut (by_fraction 0 false) None)
         (two_texts (codes "c\t10\t20\n") (codes "c\t20\t30\n")) [] }
@@ -170,7 +170,7 @@ pub fn pieces()
 {}
 
 /// Runs (bedtools manual, merge, options -d, -s and -S).
-#[tactic(auto, unfolding(bt_tool::specs::model::Report::report_of, bt_lines::specs::model::Lines::lines_from, bt_lines::specs::model::Lines::value_of, bt_bed::specs::model::Good::good_from, bt_bed::specs::model::Good::line_says, bt_bed::specs::model::BedLine::record_of, bt_bed::specs::calls::Stretches::stretches_from, bt_bed::specs::calls::Stretches::with_position, bt_runs::specs::model::Merged::is_bridged, bt_runs::specs::model::Merged::runs_of, bt_runs::specs::model::Merged::merged, bt_runs::specs::model::Merged::ordered_runs, bt_runs::specs::model::Merged::strand_runs, bt_runs::specs::model::Merged::settled_strand_runs, bt_bed::specs::model::Genome::genome_from, bt_bed::specs::model::Genome::entry_of))]
+#[tactic(auto, unfolding(bt_tool::specs::model::Report::report_of, bt_lines::specs::model::Lines::lines_from, bt_lines::specs::model::Lines::value_of, bt_bed::specs::model::Good::good_after, bt_bed::specs::model::Good::line_says, bt_bed::specs::model::BedLine::record_of, bt_bed::specs::calls::Stretches::stretches_from, bt_bed::specs::calls::Stretches::with_position, bt_runs::specs::model::Merged::is_bridged, bt_runs::specs::model::Merged::runs_of, bt_runs::specs::model::Merged::merged, bt_runs::specs::model::Merged::ordered_runs, bt_runs::specs::model::Merged::strand_runs, bt_runs::specs::model::Merged::settled_strand_runs, bt_bed::specs::model::Genome::genome_from, bt_bed::specs::model::Genome::entry_of))]
 pub fn merges()
     ensures touching { Writes (Command.Merge 0 MergeStrand.All) (one_text (codes "c\t1\t3\nc\t2\t4\nc\t4\t6\nc\t7\t9\n")) (codes "c\t1\t6\nc\t7\t9\n") }
     ensures across_a_gap { Writes (Command.Merge 1 MergeStrand.All) (one_text (codes "c\t1\t3\nc\t4\t6\nc\t8\t9\n")) (codes "c\t1\t6\nc\t8\t9\n") }
@@ -215,7 +215,7 @@ pub fn depths()
 {}
 
 /// Masked sequences (bedtools manual, maskfasta, options -soft, -mc and -fullHeader).
-#[tactic(auto, unfolding(bt_tool::specs::model::Report::report_of, bt_lines::specs::model::Lines::lines_from, bt_lines::specs::model::Lines::value_of, bt_bed::specs::model::Good::good_from, bt_bed::specs::model::Good::line_says, bt_bed::specs::model::BedLine::record_of))]
+#[tactic(auto, unfolding(bt_tool::specs::model::Report::report_of, bt_lines::specs::model::Lines::lines_from, bt_lines::specs::model::Lines::value_of, bt_bed::specs::model::Good::good_after, bt_bed::specs::model::Good::line_says, bt_bed::specs::model::BedLine::record_of))]
 pub fn masks()
     ensures over_two_lines { Writes (Command.MaskFasta (MaskHow.Hard 78) false) (two_texts (codes ">s d\nACGTAC\nGTAC") (codes "s\t4\t8\n")) (codes ">s d\nACGTNN\nNNAC") }
     ensures lower_case { Writes (Command.MaskFasta MaskHow.Soft false) (two_texts (codes ">s d\nACGTAC\nGTAC") (codes "s\t4\t8\n")) (codes ">s d\nACGTac\ngtAC") }
@@ -314,7 +314,7 @@ pub fn runs()
 {}
 
 /// What options mean, by what they make a command write (bedtools manual, intersect and maskfasta).
-#[tactic(auto, unfolding(bt_tool::specs::model::Report::report_of, bt_lines::specs::model::Lines::lines_from, bt_lines::specs::model::Lines::value_of, bt_bed::specs::model::Good::good_from, bt_bed::specs::model::Good::line_says, bt_bed::specs::model::BedLine::record_of, bt_bed::specs::calls::Stretches::stretches_from, bt_bed::specs::calls::Stretches::with_position, bt_runs::specs::model::Merged::is_bridged, bt_runs::specs::model::Merged::runs_of, bt_runs::specs::model::Merged::merged, bt_runs::specs::model::Merged::ordered_runs, bt_runs::specs::model::Merged::strand_runs, bt_runs::specs::model::Merged::settled_strand_runs, bt_bed::specs::model::Genome::genome_from, bt_bed::specs::model::Genome::entry_of, bt_sweep::specs::model::Lines::lines_for, bt_sweep::specs::model::Hits::hits, bt_sweep::specs::model::Hits::strands_agree, bt_sweep::specs::model::Hits::is_enough, bt_sweep::specs::model::Hits::has_fraction, bt_tool::specs::model::Report::report, bt_tool::specs::model::Options::options, bt_tool::specs::model::Options::word_fault, bt_tool::specs::model::Usage::items_of, bt_tool::specs::model::Fraction::fraction_in))]
+#[tactic(auto, unfolding(bt_tool::specs::model::Report::report_of, bt_lines::specs::model::Lines::lines_from, bt_lines::specs::model::Lines::value_of, bt_bed::specs::model::Good::good_after, bt_bed::specs::model::Good::line_says, bt_bed::specs::model::BedLine::record_of, bt_bed::specs::calls::Stretches::stretches_from, bt_bed::specs::calls::Stretches::with_position, bt_runs::specs::model::Merged::is_bridged, bt_runs::specs::model::Merged::runs_of, bt_runs::specs::model::Merged::merged, bt_runs::specs::model::Merged::ordered_runs, bt_runs::specs::model::Merged::strand_runs, bt_runs::specs::model::Merged::settled_strand_runs, bt_bed::specs::model::Genome::genome_from, bt_bed::specs::model::Genome::entry_of, bt_sweep::specs::model::Lines::lines_for, bt_sweep::specs::model::Hits::is_hit, bt_sweep::specs::model::Hits::strands_agree, bt_sweep::specs::model::Hits::is_enough, bt_sweep::specs::model::Hits::has_fraction, bt_tool::specs::model::Report::report, bt_tool::specs::model::Options::options, bt_tool::specs::model::Options::word_fault, bt_tool::specs::model::Usage::items_of, bt_tool::specs::model::Fraction::fraction_in))]
 pub fn meanings()
     ensures once { Shows (codes "intersect" ∷ codes "-a" ∷ codes "a" ∷ codes "-b" ∷ codes "b" ∷ codes "-u" ∷ []) [] (codes "c\t0\t9\nc\t20\t30\n") (codes "c\t2\t4\nc\t5\t6\n")
         (codes "c\t0\t9\n") None 0 }
@@ -345,7 +345,7 @@ pub fn meanings()
 {}
 
 /// Texts of which reading failed: a piece that was cut off is no line.
-#[tactic(auto, unfolding(bt_lines::specs::model::Lines::whole_lines_from, bt_tool::specs::model::Report::report_of, bt_lines::specs::model::Lines::lines_from, bt_lines::specs::model::Lines::value_of, bt_bed::specs::model::Good::good_from, bt_bed::specs::model::Good::line_says, bt_bed::specs::model::BedLine::record_of, bt_bed::specs::calls::Stretches::stretches_from, bt_bed::specs::calls::Stretches::with_position, bt_runs::specs::model::Merged::is_bridged, bt_runs::specs::model::Merged::runs_of, bt_runs::specs::model::Merged::merged, bt_runs::specs::model::Merged::ordered_runs, bt_runs::specs::model::Merged::strand_runs, bt_runs::specs::model::Merged::settled_strand_runs, bt_bed::specs::model::Genome::genome_from, bt_bed::specs::model::Genome::entry_of))]
+#[tactic(auto, unfolding(bt_lines::specs::model::Lines::whole_lines_from, bt_tool::specs::model::Report::report_of, bt_lines::specs::model::Lines::lines_from, bt_lines::specs::model::Lines::value_of, bt_bed::specs::model::Good::good_after, bt_bed::specs::model::Good::line_says, bt_bed::specs::model::BedLine::record_of, bt_bed::specs::calls::Stretches::stretches_from, bt_bed::specs::calls::Stretches::with_position, bt_runs::specs::model::Merged::is_bridged, bt_runs::specs::model::Merged::runs_of, bt_runs::specs::model::Merged::merged, bt_runs::specs::model::Merged::ordered_runs, bt_runs::specs::model::Merged::strand_runs, bt_runs::specs::model::Merged::settled_strand_runs, bt_bed::specs::model::Genome::genome_from, bt_bed::specs::model::Genome::entry_of))]
 pub fn cut_texts()
     ensures after_three_lines { CutTo (Command.Merge 0 MergeStrand.All) (codes "c\t1\t3\nc\t2\t4\nc\t4\t6\n") [] 4 }
     ensures within_a_line { CutTo (Command.Merge 0 MergeStrand.All) (codes "c\t0\t3\nc\t6\t8\nc\t9\t12") (codes "c\t0\t3\n") 3 }

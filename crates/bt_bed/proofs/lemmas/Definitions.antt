@@ -6,7 +6,7 @@ use Rattle.bt_lines.specs.declared.fault.Kind.{Kind}
 use Rattle.bt_bed.specs.model.Feature.{Feature, interval_of, intervals_of}
 use Rattle.bt_bed.specs.calls.Orders.{AreNonEmpty, good_are_placed, good_are_non_empty, AreInBlocks, IsBlockUpTo, good_are_in_blocks, IsTotal, IsUpTo, ArePlaced, IsPlacedBefore}
 use Rattle.bt_bed.specs.model.BedLine.{record_of}
-use Rattle.bt_bed.specs.model.Good.{good, Good, good_from, good_with, items_in, bed_format, line_says, locus_at, block_format}
+use Rattle.bt_bed.specs.model.Good.{good, Good, good_after, good_with, items_in, bed_format, line_says, locus_at, block_format}
 use Rattle.bt_lines.specs.model.Fault.{FaultValue}
 use Rattle.bt_bed.specs.model.Meeting.{Rule, Report, join_report, written}
 use Rattle.bt_bed.specs.model.Order.{Order}
@@ -59,11 +59,11 @@ placed_with input order last line rest total was h (Ok (Some r)) e =
       behind = follow_up_to order last r (items_in (rest (Some (locus_at r)))) (sorted_up_to order last (locus_at r) total was said.known said.stays);
     }
 
-placed_from : (input : Input) (order : Order) (last : Option Locus) (lines : List TextLine) → IsTotal order → IsKnownLocus order last → Placed order last (items_in (good_from (bed_format (sorting_of order)) input last lines))
-unfolding good_from
+placed_from : (input : Input) (order : Order) (last : Option Locus) (lines : List TextLine) → IsTotal order → IsKnownLocus order last → Placed order last (items_in (good_after (bed_format (sorting_of order)) input last lines))
+unfolding good_after
 placed_from input order last [] total was = record { placed = tt; behind = grind arith }
 placed_from input order last (line ∷ lines) total was =
-    placed_with input order last line (λ now. good_from (bed_format (sorting_of order)) input now lines) total was (λ now is. placed_from input order now lines total is) (line_says (sorting_of order) last line.text) refl
+    placed_with input order last line (λ now. good_after (bed_format (sorting_of order)) input now lines) total was (λ now is. placed_from input order now lines total is) (line_says (sorting_of order) last line.text) refl
 
 -- the good records of any lines are in order
 pub placed_lines : (input : Input) (order : Order) (lines : List TextLine) → IsTotal order → ArePlaced order (intervals_of (items_in (good (bed_format (sorting_of order)) input lines)))
@@ -80,11 +80,11 @@ non_empty_with input sorting last line rest h (Ok None) e = h last
 non_empty_with input sorting last line rest h (Ok (Some r)) e =
     All-cons (λ r. r.start < r.stop) (interval_of r) (intervals_of (items_in (rest (Some (locus_at r))))) (said_features line.text r (line_said sorting last line.text r e).says).non_empty (h (Some (locus_at r)))
 
-pub non_empty_from : (input : Input) (sorting : Sorting) (last : Option Locus) (lines : List TextLine) → AreNonEmpty (intervals_of (items_in (good_from (bed_format sorting) input last lines)))
-unfolding good_from
+pub non_empty_from : (input : Input) (sorting : Sorting) (last : Option Locus) (lines : List TextLine) → AreNonEmpty (intervals_of (items_in (good_after (bed_format sorting) input last lines)))
+unfolding good_after
 non_empty_from input sorting last [] = All-nil (λ r. r.start < r.stop)
 non_empty_from input sorting last (line ∷ lines) =
-    non_empty_with input sorting last line (λ now. good_from (bed_format sorting) input now lines) (λ now. non_empty_from input sorting now lines) (line_says sorting last line.text) refl
+    non_empty_with input sorting last line (λ now. good_after (bed_format sorting) input now lines) (λ now. non_empty_from input sorting now lines) (line_says sorting last line.text) refl
 
 -- the good records have positions
 pub non_empty_good : good_are_non_empty
@@ -114,11 +114,11 @@ blocked_with input last line rest h (Ok (Some r)) e = record {
   behind = block_up_to last (locus_at r) (line_said block_sorting last line.text r e).stays;
 }
 
-blocked_from : (input : Input) (last : Option Locus) (lines : List TextLine) → Blocked last (items_in (good_from block_format input last lines))
-unfolding good_from
+blocked_from : (input : Input) (last : Option Locus) (lines : List TextLine) → Blocked last (items_in (good_after block_format input last lines))
+unfolding good_after
 blocked_from input last [] = record { blocks = tt; behind = tt }
 blocked_from input last (line ∷ lines) =
-    blocked_with input last line (λ now. good_from block_format input now lines) (λ now. blocked_from input now lines) (line_says block_sorting last line.text) refl
+    blocked_with input last line (λ now. good_after block_format input now lines) (λ now. blocked_from input now lines) (line_says block_sorting last line.text) refl
 
 pub good_in_blocks : good_are_in_blocks
 good_in_blocks input handed = (blocked_from input None (lines_handed handed)).blocks

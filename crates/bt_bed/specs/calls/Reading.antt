@@ -13,7 +13,7 @@ use Rattle.bt_lines.specs.declared.fault.Kind.{Kind}
 use Rattle.bt_lines.specs.declared.fault.Place.{Place}
 use Rattle.bt_lines.specs.declared.reader.line_reader.LineReader.{LineReader}
 use Rattle.bt_lines.specs.declared.fault.Kind.TheVariants.{ReadFailed, WriteFailed, NoMemory}
-use Rattle.bt_bed.specs.model.Good.{Format, Good, Member, ends_with, good_from}
+use Rattle.bt_bed.specs.model.Good.{Format, Good, Member, ends_with, good_after}
 use Rattle.bt_bed.specs.model.BedLine.{fault_at_line}
 
 -- whether a line can be at fault so by what it says, and not by a device that failed or by running out of memory
@@ -53,7 +53,7 @@ pub record MemberReader (S A State : Type 0) : Type 0 where
 abbrev pub good_behind : {A State : Type 0} → Format A State → Input → Option FaultValue → State
     → List TextLine → Good A
 good_behind format input (Some fault) state lines = ends_with (Some fault)
-good_behind format input None state lines = good_from format input state lines
+good_behind format input None state lines = good_after format input state lines
 
 -- what was known stays what is still to come
 abbrev pub Remains : {A : Type 0} → Option (Good A) → Option (Good A) → Type 0

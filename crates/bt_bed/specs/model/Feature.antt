@@ -84,8 +84,8 @@ record_covers p r = covers p (span_of (interval_of r))
 -- Strands of features (UCSC BED description, field strand).
 
 -- whether two strands are equal; none equals none
-abbrev pub is_strand : Strand → Strand → Bool
-is_strand Plus Plus = true
-is_strand Minus Minus = true
-is_strand Dot Dot = true
-is_strand _ _ = false
+abbrev pub is_same_strand : Strand → Strand → Bool
+is_same_strand Plus Plus = true
+is_same_strand Minus Minus = true
+is_same_strand Dot Dot = true
+is_same_strand _ _ = false

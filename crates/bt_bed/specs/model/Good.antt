@@ -54,16 +54,16 @@ good_with format input line state (Ok (Some item)) rest =
     with_member (record { line = line; item = item }) (rest (format.after state item))
 
 -- what is good of the lines, by what is known before them
-unfoldable pub good_from : {A State : Type 0} → Format A State → Input → State
+unfoldable pub good_after : {A State : Type 0} → Format A State → Input → State
     → List TextLine → Good A
-good_from format input state [] = ends_with None
-good_from format input state (line ∷ lines) =
+good_after format input state [] = ends_with None
+good_after format input state (line ∷ lines) =
     good_with format input line.number state (format.says state line)
-    (λ now. good_from format input now lines)
+    (λ now. good_after format input now lines)
 
 -- what is good of all lines of an input
 abbrev pub good : {A State : Type 0} → Format A State → Input → List TextLine → Good A
-good format input lines = good_from format input format.begin lines
+good format input lines = good_after format input format.begin lines
 
 -- the first of two faults, if there is one
 abbrev pub or_else : Option FaultValue → Option FaultValue → Option FaultValue

@@ -17,7 +17,7 @@ use Rattle.bt_laws.specs.WholeRuns.{first_records, second_records, RunWrites}
 use Rattle.bt_laws.proofs.lemmas.pipes.PipeLaws.{depth_both, chroms_of, genomecov_whole, intersect_whole, well_there, cut_intersect_input, subtract_input, report_there}
 use Rattle.bt_lines.specs.declared.fault.Input.TheVariants.{First, Second}
 use Rattle.bt_bed.specs.model.Good.{bed_good}
-use Rattle.bt_sweep.specs.model.Hits.{hits, hits_among, is_enough, strands_agree}
+use Rattle.bt_sweep.specs.model.Hits.{is_hit, hits_among, is_enough, strands_agree}
 use Rattle.bt_sweep.specs.calls.Sweeping.{any_overlap}
 use Rattle.bt_sweep.specs.model.Lines.{intersect, lines_for, pieces}
 use Rattle.bt_sweep.specs.calls.LineLaws.{spans_of}
@@ -145,8 +145,8 @@ sum_depths strand inputs entries well =
 
 -- ---- a rule that asks the same of both
 
-hits_swap : (rule : HitRule) (a b : Feature) → IsMutual rule → hits rule a b ≡ hits rule b a
-unfolding hits strands_agree is_enough
+hits_swap : (rule : HitRule) (a b : Feature) → IsMutual rule → is_hit rule a b ≡ is_hit rule b a
+unfolding is_hit strands_agree is_enough
 hits_swap rule a b even = grind (arith, enough_of_nothing, name_eq-sym)
 
 -- ---- lists of lists
@@ -166,10 +166,10 @@ module _ {A B : Type 0} where
 module _ (rule : HitRule) (even : IsMutual rule) where
   -- those of the second side, by the first
   abbrev turned_of : Feature → List Feature → List HitPair
-  turned_of b as_read = map (λ a. record { left = b; right = a }) (filter (hits rule b) as_read)
+  turned_of b as_read = map (λ a. record { left = b; right = a }) (filter (is_hit rule b) as_read)
 
   one_pair : Feature → Feature → List HitPair
-  one_pair a b = cond (hits rule b a) (record { left = b; right = a } ∷ []) []
+  one_pair a b = cond (is_hit rule b a) (record { left = b; right = a } ∷ []) []
 
   one_more : (a : Feature) (as_read : List Feature) (b : Feature) → turned_of b (a ∷ as_read) ≡ one_pair a b ++ turned_of b as_read
   unfolding one_pair

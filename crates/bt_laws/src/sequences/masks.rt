@@ -81,7 +81,7 @@ pub fn held_records_mask_alone()
 {}
 
 /// The masked text of small inputs.
-#[tactic(auto, unfolding(bt_bed::specs::model::Good::good_from, bt_bed::specs::model::Good::line_says, bt_bed::specs::model::BedLine::record_of, bt_lines::specs::model::Lines::lines_from, bt_lines::specs::model::Lines::value_of))]
+#[tactic(auto, unfolding(bt_bed::specs::model::Good::good_after, bt_bed::specs::model::Good::line_says, bt_bed::specs::model::BedLine::record_of, bt_lines::specs::model::Lines::lines_from, bt_lines::specs::model::Lines::value_of))]
 pub fn masked_small_texts()
     ensures over_two_lines { mask_texts (MaskHow.Hard 78) false (codes ">s d\nACGTAC\nGTAC") (codes "s\t4\t8\n")
         ≡ record { output = codes ">s d\nACGTNN\nNNAC"; fault = None } }
@@ -100,7 +100,7 @@ pub fn masked_small_texts()
 {}
 
 /// Which sequence is masked if several have a name, or a block has none.
-#[tactic(auto, unfolding(bt_bed::specs::model::Good::good_from, bt_bed::specs::model::Good::line_says, bt_bed::specs::model::BedLine::record_of, bt_lines::specs::model::Lines::lines_from, bt_lines::specs::model::Lines::value_of))]
+#[tactic(auto, unfolding(bt_bed::specs::model::Good::good_after, bt_bed::specs::model::Good::line_says, bt_bed::specs::model::BedLine::record_of, bt_lines::specs::model::Lines::lines_from, bt_lines::specs::model::Lines::value_of))]
 pub fn masked_sequences_of_blocks()
     ensures each_in_turn { mask_texts (MaskHow.Hard 78) false (codes ">s\nAAAA\n>t\nCCCC\n>s\nGGGG\n") (codes "s\t0\t1\nt\t0\t1\ns\t0\t1\n")
         ≡ record { output = codes ">s\nNAAA\n>t\nNCCC\n>s\nNGGG\n"; fault = None } }
@@ -115,7 +115,7 @@ pub fn masked_sequences_of_blocks()
 {}
 
 /// What is written before a fault.
-#[tactic(auto, unfolding(bt_bed::specs::model::Good::good_from, bt_bed::specs::model::Good::line_says, bt_bed::specs::model::BedLine::record_of, bt_lines::specs::model::Lines::lines_from, bt_lines::specs::model::Lines::value_of))]
+#[tactic(auto, unfolding(bt_bed::specs::model::Good::good_after, bt_bed::specs::model::Good::line_says, bt_bed::specs::model::BedLine::record_of, bt_lines::specs::model::Lines::lines_from, bt_lines::specs::model::Lines::value_of))]
 pub fn masked_lines_before_a_fault()
     ensures no_sequence { mask_texts (MaskHow.Hard 78) false (codes ">s\nACGT\n") (codes "t\t0\t2\n")
         ≡ record { output = codes ">s\nACGT\n"; fault = Some (fault_at_line Input.Second 1 Kind.NoSequence) } }

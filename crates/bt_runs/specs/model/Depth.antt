@@ -1,7 +1,7 @@
 -- What `bedtools genomecov` gives: the intervals of equal depth.
 use Rattle.std.specs.Prelude.{ℕ, ◌++◌, Bool, true, cond, List, [], Option, Some, None, ◌&&◌, ◌||◌, nat_lt, length, map, filter, flat_map, codes, decimal}
 use Rattle.std.specs.Option.{option_map_or}
-use Rattle.bt_bed.specs.model.Feature.{Feature, intervals_of, Interval, Span, last_of, spans_on, is_strand, covers}
+use Rattle.bt_bed.specs.model.Feature.{Feature, intervals_of, Interval, Span, last_of, spans_on, is_same_strand, covers}
 use Rattle.bt_bed.specs.model.Genome.{Entry, genome_names}
 use Rattle.bt_bed.specs.model.Order.{rank_order}
 use Rattle.bt_bed.specs.declared.record.strand.Strand.{Strand}
@@ -36,7 +36,7 @@ depth_of zeros spans p = reported zeros (depth_at spans p)
 -- whether a record of this strand is counted: all are, or those of one strand
 abbrev pub is_counted_by : Option Strand → Strand → Bool
 is_counted_by None strand = true
-is_counted_by (Some wanted) strand = is_strand wanted strand
+is_counted_by (Some wanted) strand = is_same_strand wanted strand
 
 -- the counted records on the chromosome of this name
 abbrev pub counted_on : Option Strand → List ℕ → List Feature → List Span

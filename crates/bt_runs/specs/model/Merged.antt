@@ -1,6 +1,6 @@
 -- What `bedtools merge` gives, with its options.
 use Rattle.std.specs.Prelude.{ℕ, zero, suc, ◌+◌, Bool, false, not, ◌&&◌, ◌||◌, List, [], ◌∷◌, map, filter, flat_map, max, nat_le, nat_lt, bytes_eq, true, Option, Some, None, if◌then◌else◌, ◌++◌}
-use Rattle.bt_bed.specs.model.Feature.{Interval, Span, spans_on, placed_on, Feature, intervals_of, is_strand, last_of, covers}
+use Rattle.bt_bed.specs.model.Feature.{Interval, Span, spans_on, placed_on, Feature, intervals_of, is_same_strand, last_of, covers}
 use Rattle.bt_bed.specs.model.Positions.{OneSpanList}
 use Rattle.bt_bed.proofs.lemmas.StretchScans.{one_span_list}
 use Rattle.bt_bed.specs.declared.record.strand.Strand.{Strand}
@@ -69,7 +69,7 @@ chromosomes (r ∷ rs) = r.chrom ∷ without r.chrom (chromosomes rs)
 abbrev pub is_counted : MergeStrand → Strand → Bool
 is_counted All strand = true
 is_counted Each strand = true
-is_counted (One wanted) strand = is_strand wanted strand
+is_counted (One wanted) strand = is_same_strand wanted strand
 
 -- where the records lie that are merged
 abbrev pub counted : MergeStrand → List Feature → List Interval
@@ -126,7 +126,7 @@ runs_of_strand gap records strand =
 -- whether a record is one of those of the run: of its strand, and in it
 abbrev pub is_in : StrandRun → Feature → Bool
 is_in item r =
-    is_strand item.strand r.strand
+    is_same_strand item.strand r.strand
     && (bytes_eq item.run.chrom r.chrom && (nat_le item.run.start r.start && nat_le r.stop item.run.stop))
 
 -- of the runs the one whose first record this is, if there is one: the record lies in it,
@@ -135,14 +135,14 @@ abbrev pub begun_by : List StrandRun → List Feature → Feature → List Stran
 begun_by runs before r = filter (λ item. is_in item r && not (list_any (is_in item) before)) runs
 
 -- for each record the run that it is the first of, if these come before them
-abbrev pub listed_behind : (Strand → List StrandRun) → List Feature → List Feature → List StrandRun
-listed_behind runs before [] = []
-listed_behind runs before (r ∷ rs) =
-    begun_by (runs r.strand) before r ++ listed_behind runs (before ++ r ∷ []) rs
+abbrev pub listed_after : (Strand → List StrandRun) → List Feature → List Feature → List StrandRun
+listed_after runs before [] = []
+listed_after runs before (r ∷ rs) =
+    begun_by (runs r.strand) before r ++ listed_after runs (before ++ r ∷ []) rs
 
 -- the merged runs of all strands, listed by their first records
 unfoldable pub strand_runs : ℕ → List Feature → List StrandRun
-strand_runs gap records = listed_behind (runs_of_strand gap records) [] records
+strand_runs gap records = listed_after (runs_of_strand gap records) [] records
 
 -- the first of the listed runs, as long as the last record closes them
 abbrev pub closed_prefix : ℕ → List StrandRun → Option Interval → List StrandRun

@@ -1,6 +1,6 @@
 -- Lemmas on what is written of a record.
 use Rattle.bt_lines.proofs.Std.{common_steps, ◌≡◌, ℕ, ◌+◌, ◌<◌, ◌≤◌, Bool, true, false, ◌||◌, List, [], ◌∷◌, zero, suc, add-one, arith, drop, length, nat_le, leb-true, option_to_list, take, AllByRecursion, list_any, slice_get, leb-false, or_parts, All-from_recursion, cond, ◌++◌, Err, refl, sym, ap, ◌∙◌, subst, append_assoc, filter, flat_map, length-append, or_left, or_right, or_from, take-append-drop, filter-append, list_any-append, ◌-◌, not, ltb, min, max, All, length-take-le, All-take, recursion_from_All, Result, ◌⊎◌, inl, inr, decimal}
-use Rattle.bt_bed.specs.model.Feature.{Feature, is_strand}
+use Rattle.bt_bed.specs.model.Feature.{Feature, is_same_strand}
 use Rattle.bt_bed.specs.model.BedLine.{bed_text}
 use Rattle.bt_sweep.specs.calls.Held.{AreRising, AreRisingFrom, StartBefore, StartFrom, AreOn, CanHit}
 use Rattle.bt_lines.specs.calls.Names.{fault_value}
@@ -8,7 +8,7 @@ use Rattle.bt_lines.specs.calls.Output.{Output, Adds, FailsToAdd, Grown, Puts}
 use Rattle.bt_lines.specs.declared.fault.Fault.{Fault}
 use Rattle.bt_lines.proofs.lemmas.Writer.{cut_off, fails_then, grown_more, adds_some}
 use Rattle.bt_bed.proofs.lemmas.parse.NameLemmas.{name_eq}
-use Rattle.bt_sweep.specs.model.Hits.{hits, hits_among, shared_bases, strands_agree}
+use Rattle.bt_sweep.specs.model.Hits.{is_hit, hits_among, shared_bases, strands_agree}
 use Rattle.bt_sweep.specs.declared.hits.hit_rule.HitRule.{HitRule}
 use Rattle.bt_sweep.proofs.lemmas.definitions.HitLemmas.{enough_of_nothing}
 use Rattle.bt_sweep.specs.model.Lines.{piece_line, pieces, hit_line, line_with, lines_for, lines_of}
@@ -167,10 +167,10 @@ open_kept last a bs same all = All-from_recursion (CanHit a) (filter (λ b. ltb 
 module _ (rule : HitRule) (a : Feature) (any : rule.billionths ≡ 0) (no_strand : rule.same_strand ≡ false) (some : a.start < a.stop) where
   strands : (b : Feature) → strands_agree rule a b ≡ true
   unfolding strands_agree
-  strands b = ap (λ c. not c || is_strand a.strand b.strand) no_strand
+  strands b = ap (λ c. not c || is_same_strand a.strand b.strand) no_strand
 
-  one_hits : (b : Feature) → CanHit a b → b.start < a.stop → hits rule a b ≡ true
-  unfolding hits
+  one_hits : (b : Feature) → CanHit a b → b.start < a.stop → is_hit rule a b ≡ true
+  unfolding is_hit
   one_hits b one before = grind (arith, name_eq, strands, enough_of_nothing)
 
   hit_rec : (bs : List Feature) → AllByRecursion (CanHit a) bs → AllByRecursion (λ b. b.start < a.stop) bs → hits_among rule a bs ≡ bs
@@ -211,7 +211,7 @@ module _ (rule : HitRule) (a : Feature) (held : List Feature) where
 
   module _ (i : ℕ) {free : ℕ} (reached : free ≡ free_after a.start (found_to i)) where
     next_found : found_to (i + 1) ≡ found_to i ++ found_at i
-    next_found = ap (filter (hits rule a)) (take_next held i) ∙ filter-append (hits rule a) (take i held) (option_to_list (slice_get held i))
+    next_found = ap (filter (is_hit rule a)) (take_next held i) ∙ filter-append (is_hit rule a) (take i held) (option_to_list (slice_get held i))
 
     pub free_next : (next : ℕ) → next ≡ free_after free (found_at i) → next ≡ free_after a.start (found_to (i + 1))
     free_next next e = grind (arith, free_append, next_found)
@@ -227,7 +227,7 @@ module _ (rule : HitRule) (a : Feature) (held : List Feature) where
     rest = hits_among rule a (drop (i + 1) held)
 
     all_found : found_to (i + 1) ++ rest ≡ hits_among rule a held
-    all_found = sym (filter-append (hits rule a) (take (i + 1) held) (drop (i + 1) held)) ∙ ap (filter (hits rule a)) (take-append-drop (i + 1) held)
+    all_found = sym (filter-append (is_hit rule a) (take (i + 1) held) (drop (i + 1) held)) ∙ ap (filter (is_hit rule a)) (take-append-drop (i + 1) held)
 
     abbrev lines_behind : List ℕ
     lines_behind = lines_before a (free_after a.start (found_to (i + 1))) rest ++ gap_lines a (free_after a.start (hits_among rule a held)) a.stop
@@ -289,21 +289,21 @@ missing_of a p (b ∷ bs) = missing_at a p b bs (p b) refl (missing_of a p bs)
 
 module _ {A : Type 0} (a : Feature) (bs : List Feature) (out grown : Output) (r : Result A Fault) (shape : Shape) (rule : HitRule) where
   -- a record that is put if something hits it
-  pub once_adds : (any : Bool) → shape ≡ Once → any ≡ list_any (hits rule a) bs → Adds out (cond any (line_with (bed_text a ∷ [])) []) r grown → Adds out (lines_for shape rule a bs) r grown
+  pub once_adds : (any : Bool) → shape ≡ Once → any ≡ list_any (is_hit rule a) bs → Adds out (cond any (line_with (bed_text a ∷ [])) []) r grown → Adds out (lines_for shape rule a bs) r grown
   unfolding lines_for
   once_adds any is e adds = grind (arith, once_of)
 
   -- a record that is put if nothing does
-  missing_as : (s : Shape) (none : Bool) → shape ≡ s → lines_of s a (hits_among rule a bs) ≡ cond (not (list_any (hits rule a) bs)) (line_with (bed_text a ∷ [])) [] → none ≡ not (list_any (hits rule a) bs)
+  missing_as : (s : Shape) (none : Bool) → shape ≡ s → lines_of s a (hits_among rule a bs) ≡ cond (not (list_any (is_hit rule a) bs)) (line_with (bed_text a ∷ [])) [] → none ≡ not (list_any (is_hit rule a) bs)
       → Adds out (cond none (line_with (bed_text a ∷ [])) []) r grown → Adds out (lines_for shape rule a bs) r grown
   unfolding lines_for
   missing_as s none is lines e adds = grind (arith)
 
-  pub unmatched_adds : (none : Bool) → (shape ≡ Missing) ⊎ (shape ≡ Whole) → none ≡ not (list_any (hits rule a) bs) → Adds out (cond none (line_with (bed_text a ∷ [])) []) r grown → Adds out (lines_for shape rule a bs) r grown
+  pub unmatched_adds : (none : Bool) → (shape ≡ Missing) ⊎ (shape ≡ Whole) → none ≡ not (list_any (is_hit rule a) bs) → Adds out (cond none (line_with (bed_text a ∷ [])) []) r grown → Adds out (lines_for shape rule a bs) r grown
   unmatched_adds none is e adds =
       elim is [
-        | inl is ↦ missing_as Missing none is (missing_of a (hits rule a) bs) e adds
-        | inr is ↦ missing_as Whole none is ((grind arith) ∙ missing_of a (hits rule a) bs) e adds
+        | inl is ↦ missing_as Missing none is (missing_of a (is_hit rule a) bs) e adds
+        | inr is ↦ missing_as Whole none is ((grind arith) ∙ missing_of a (is_hit rule a) bs) e adds
       ]
 
   -- the pieces that those leave that hit it

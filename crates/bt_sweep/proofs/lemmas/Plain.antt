@@ -3,7 +3,7 @@ use Rattle.bt_lines.proofs.Std.{◌≡◌, ◌⊎◌, ℕ, List, [], ◌∷◌, 
 use Rattle.bt_bed.specs.model.Feature.{Feature, Span, record_covers}
 use Rattle.bt_bed.specs.calls.Stretches.{stretches_from, with_position}
 use Rattle.bt_bed.specs.model.BedLine.{bed_text}
-use Rattle.bt_sweep.specs.model.Hits.{hits_among, hits}
+use Rattle.bt_sweep.specs.model.Hits.{hits_among, is_hit}
 use Rattle.bt_sweep.specs.model.Lines.{hit_line, line_with, lines_for, piece_line, pieces, is_left}
 use Rattle.bt_sweep.specs.declared.hits.hit_rule.HitRule.{HitRule}
 use Rattle.bt_sweep.specs.declared.output.shape.Shape.{Shape}
@@ -93,9 +93,9 @@ unfolding pieces
 scan_all a others passed found all so_far = grind (arith)
 
 -- some of those that hit a has the position
-pub any_hit_has : (rule : HitRule) (a : Feature) (p : ℕ) (bs : List Feature) → list_any (λ b. hits rule a b && record_covers p b) bs ≡ list_any (record_covers p) (hits_among rule a bs)
+pub any_hit_has : (rule : HitRule) (a : Feature) (p : ℕ) (bs : List Feature) → list_any (λ b. is_hit rule a b && record_covers p b) bs ≡ list_any (record_covers p) (hits_among rule a bs)
 any_hit_has rule a p [] = refl
-any_hit_has rule a p (b ∷ bs) = ap (λ c. (hits rule a b && record_covers p b) || c) (any_hit_has rule a p bs) ∙ (grind arith)
+any_hit_has rule a p (b ∷ bs) = ap (λ c. (is_hit rule a b && record_covers p b) || c) (any_hit_has rule a p bs) ∙ (grind arith)
 
 -- a position from the start on that none of the others has
 pub left_by : (a : Feature) (others : List Feature) (p : ℕ) (taken : Bool) → a.start ≤ p → taken ≡ list_any (record_covers p) others → not taken ≡ is_left a others p

@@ -1,6 +1,6 @@
 -- Which records hit one another, which decide one, and which are held.
 use Rattle.std.specs.Prelude.{ℕ, ◌*◌, Bool, not, ◌&&◌, ◌||◌, List, filter, nat_le, nat_lt, [], ◌∷◌, ◌++◌, Option, None, Some, bytes_eq, if◌then◌else◌, length, map}
-use Rattle.bt_bed.specs.model.Feature.{length_of, shared, Feature, interval_of, is_strand}
+use Rattle.bt_bed.specs.model.Feature.{length_of, shared, Feature, interval_of, is_same_strand}
 use Rattle.bt_bed.specs.model.BedLine.{fault_at_line}
 use Rattle.bt_sweep.specs.declared.hits.hit_rule.HitRule.{HitRule}
 use Rattle.std.specs.List.{list_any, find}
@@ -30,16 +30,16 @@ is_enough rule bases a b =
 
 -- whether the strands of a and b are the same, if the rule requires that
 unfoldable pub strands_agree : HitRule → Feature → Feature → Bool
-strands_agree rule a b = not rule.same_strand || is_strand a.strand b.strand
+strands_agree rule a b = not rule.same_strand || is_same_strand a.strand b.strand
 
 -- whether b hits a: they have a base in common, and what the rule requires
-unfoldable pub hits : HitRule → Feature → Feature → Bool
-hits rule a b =
+unfoldable pub is_hit : HitRule → Feature → Feature → Bool
+is_hit rule a b =
     nat_lt 0 (shared_bases a b) && (strands_agree rule a b && is_enough rule (shared_bases a b) a b)
 
 -- the records that hit a, in file order
 abbrev pub hits_among : HitRule → Feature → List Feature → List Feature
-hits_among rule a bs = filter (hits rule a) bs
+hits_among rule a bs = filter (is_hit rule a) bs
 
 -- Which records of the second input decide one of the first: from there on, in sorted input,
 -- nothing can hit it (bedtools manual, intersect, sorted input).
@@ -80,20 +80,20 @@ are_too_many order most first second =
 
 -- The members after others, up to the first with which they are too many, where the fault of the
 -- limit lies. If there is none, all of them and their own fault.
-abbrev pub cut_behind : (List Feature → Bool) → List (Member Feature) → List (Member Feature)
+abbrev pub up_to_too_many : (List Feature → Bool) → List (Member Feature) → List (Member Feature)
     → Option FaultValue → Good Feature
-cut_behind too_many past [] fault = record { members = past; fault = fault }
-cut_behind too_many past (m ∷ more) fault =
+up_to_too_many too_many past [] fault = record { members = past; fault = fault }
+up_to_too_many too_many past (m ∷ more) fault =
     if too_many (map (λ m. m.item) (past ++ m ∷ []))
     then record {
       members = past ++ m ∷ [];
       fault = Some (fault_at_line Second m.line TooManyHeld);
     }
-    else cut_behind too_many (past ++ m ∷ []) more fault
+    else up_to_too_many too_many (past ++ m ∷ []) more fault
 
 -- The second input as the records of the first meet it, if at most `most` are held: up to
 -- the first record with which they would be too many. Without a limit it is whole.
-abbrev pub limited : Order → Option ℕ → List Feature → Good Feature → Good Feature
-limited order None first second = second
-limited order (Some most) first second =
-    cut_behind (are_too_many order most first) [] second.members second.fault
+abbrev pub within_limit : Order → Option ℕ → List Feature → Good Feature → Good Feature
+within_limit order None first second = second
+within_limit order (Some most) first second =
+    up_to_too_many (are_too_many order most first) [] second.members second.fault

@@ -54,8 +54,8 @@ hit_line OrigBoth a b = line_with (bed_text a ∷ bed_text b ∷ [])
 hit_line Overlap a b = line_with (bed_text a ∷ bed_text b ∷ decimal (shared_bases a b) ∷ [])
 hit_line _ a b = []
 
--- what is written of a and all that hit it: a, if there are some; or a, if there is none; or a and
--- how many there are; or the pieces of a that they leave; or a, if there is none; or a line for each
+-- What is written of a and all that hit it: a, if there are some (-u); a, if there is none (-v, and subtract -A); a and how
+-- many there are (-c); the pieces of a that they leave (subtract); or a line for each of them.
 abbrev pub lines_of : Shape → Feature → List Feature → List ℕ
 lines_of Once a [] = []
 lines_of Once a (b ∷ more) = line_with (bed_text a ∷ [])

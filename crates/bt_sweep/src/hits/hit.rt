@@ -3,8 +3,8 @@
 ghost use Rattle.std.specs.Prelude.{◌≡◌, ◌≤◌, All, length, option_copied, option_to_list, take};
 ghost use Rattle.std.specs.List.{list_any};
 ghost use Rattle.bt_bed.specs.calls.Bed.{feature_lent};
-ghost use Rattle.bt_bed.specs.model.Feature.{is_strand};
-ghost use Rattle.bt_sweep.specs.model.Hits.{has_fraction, hits, hits_among, is_enough, shared_bases, strands_agree};
+ghost use Rattle.bt_bed.specs.model.Feature.{is_same_strand};
+ghost use Rattle.bt_sweep.specs.model.Hits.{has_fraction, is_hit, hits_among, is_enough, shared_bases, strands_agree};
 ghost use Rattle.bt_sweep.specs.calls.Held.{AreOn, AreRising, CanHit, StartBefore};
 
 use crate::active::held::Held;
@@ -14,10 +14,10 @@ use bt_bed::{BedRef, Rec, Strand};
 
 // Whether two records of one chromosome hit one another. Those that share no base are found by two
 // comparisons.
-#[tactic(auto, unfolding(crate::specs::model::Hits::hits))]
+#[tactic(auto, unfolding(crate::specs::model::Hits::is_hit))]
 pub(crate) fn is_hit(rule: HitRule, a: &BedRef<'_>, b: &BedRef<'_>) -> bool
     requires { b.now.chrom.now ≡ a.now.chrom.now }
-    ensures { result ≡ hits rule (feature_lent a.now) (feature_lent b.now) }
+    ensures { result ≡ is_hit rule (feature_lent a.now) (feature_lent b.now) }
 {
     a.start < b.stop && b.start < a.stop && strands_agree(rule, a, b) && shares_enough(rule, a, b)
 }
@@ -49,12 +49,12 @@ fn common_bases(a: &BedRef<'_>, b: &BedRef<'_>) -> u64
 pub(crate) fn strands_agree(rule: HitRule, a: &BedRef<'_>, b: &BedRef<'_>) -> bool
     ensures { result ≡ strands_agree rule (feature_lent a.now) (feature_lent b.now) }
 {
-    !rule.same_strand || is_strand(a.strand, b.strand)
+    !rule.same_strand || is_same_strand(a.strand, b.strand)
 }
 
 // Whether two strands are equal.
-fn is_strand(first: Strand, second: Strand) -> bool
-    ensures { result ≡ is_strand first second }
+fn is_same_strand(first: Strand, second: Strand) -> bool
+    ensures { result ≡ is_same_strand first second }
 {
     first == second
 }
@@ -81,7 +81,7 @@ fn has_fraction(billionths: u64, bases: u64, a: &BedRef<'_>) -> bool
 // Whether a held record, if there is one, hits the record.
 fn is_hit_by(rule: HitRule, a: &BedRef<'_>, b: Option<&Rec>) -> bool
     requires { AreOn a.now.chrom.now (option_to_list (option_copied b)) }
-    ensures { result ≡ list_any (hits rule (feature_lent a.now)) (option_to_list (option_copied b.entry)) }
+    ensures { result ≡ list_any (is_hit rule (feature_lent a.now)) (option_to_list (option_copied b.entry)) }
 {
     match b {
         None => false,
@@ -95,7 +95,7 @@ fn is_hit_by(rule: HitRule, a: &BedRef<'_>, b: Option<&Rec>) -> bool
 pub(crate) fn is_any_hit<H: Held>(rule: HitRule, a: &BedRef<'_>, held: &H) -> bool
     requires { AreOn a.now.chrom.now (H.records held.now) }
     ensures { AreRising (H.records held.now)
-        → result ≡ list_any (hits rule (feature_lent a.now)) (H.records held.now) }
+        → result ≡ list_any (is_hit rule (feature_lent a.now)) (H.records held.now) }
 {
     for index in 0..held.len() {
         let b = held.nth(index);

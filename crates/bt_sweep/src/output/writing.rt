@@ -6,7 +6,7 @@ ghost use Rattle.bt_bed.specs.calls.Bed.{feature_lent};
 ghost use Rattle.bt_bed.specs.model.BedLine.{bed_text, cut_to};
 ghost use Rattle.bt_sweep.specs.calls.Held.{AreOn, AreRising, CanHit};
 ghost use Rattle.std.specs.List.{list_any};
-ghost use Rattle.bt_sweep.specs.model.Hits.{hits, hits_among, shared_bases};
+ghost use Rattle.bt_sweep.specs.model.Hits.{is_hit, hits_among, shared_bases};
 ghost use Rattle.bt_sweep.specs.inside.Shapes.{shape_with};
 ghost use Rattle.bt_sweep.specs.model.Lines.{hit_line, line_with, lines_for};
 

@@ -6,7 +6,7 @@ pub(crate) mod plain_pieces;
 ghost use Rattle.std.specs.Prelude.{◌≡◌, ◌∷◌, ◌++◌, [], OnOk, IfOk, decimal, filter, flat_map, length};
 ghost use Rattle.bt_bed.specs.calls.Bed.{feature_lent};
 ghost use Rattle.bt_bed.specs.model.BedLine.{bed_text, cut_to};
-ghost use Rattle.bt_sweep.specs.model.Hits.{hits, hits_among, shared_bases};
+ghost use Rattle.bt_sweep.specs.model.Hits.{is_hit, hits_among, shared_bases};
 ghost use Rattle.bt_sweep.specs.model.Lines.{hit_line, intersect, line_with, lines_for, piece_line, pieces};
 
 use crate::hits::hit::{is_enough, strands_agree};
@@ -71,9 +71,9 @@ fn count_hits(rule: HitRule, a: &Rec, second: &[Rec]) -> usize
 }
 
 // Whether a record hits another: they share a base, and as much as the rule requires.
-#[tactic(auto, unfolding(crate::specs::model::Hits::hits))]
+#[tactic(auto, unfolding(crate::specs::model::Hits::is_hit))]
 pub(crate) fn hits(rule: HitRule, a: &BedRef<'_>, b: &BedRef<'_>) -> bool
-    ensures { result ≡ hits rule (feature_lent a.now) (feature_lent b.now) }
+    ensures { result ≡ is_hit rule (feature_lent a.now) (feature_lent b.now) }
 {
     let bases = shared(a, b);
     bases > 0 && strands_agree(rule, a, b) && is_enough(rule, bases, a, b)

@@ -4,7 +4,7 @@ ghost use Rattle.std.specs.Prelude.{◌≡◌, ◌+◌, ◌<◌, ◌^◌, ◌&&�
 ghost use Rattle.std.specs.List.{list_any};
 ghost use Rattle.bt_bed.specs.calls.Bed.{feature_lent};
 ghost use Rattle.bt_bed.specs.calls.Stretches.{with_position};
-ghost use Rattle.bt_sweep.specs.model.Hits.{hits, hits_among};
+ghost use Rattle.bt_sweep.specs.model.Hits.{is_hit, hits_among};
 ghost use Rattle.bt_bed.specs.model.Feature.{record_covers};
 ghost use Rattle.bt_sweep.specs.model.Lines.{is_left, pieces};
 ghost use Rattle.bt_sweep.specs.inside.Pieces.{pieces_in};
@@ -47,7 +47,7 @@ fn is_left(rule: HitRule, a: &BedRef<'_>, second: &[Rec], position: u64) -> bool
 
 // Whether one that hits the record has the position.
 fn is_taken(rule: HitRule, a: &BedRef<'_>, second: &[Rec], position: u64) -> bool
-    ensures { result ≡ list_any (λ b. hits rule (feature_lent a.now) b && record_covers position b) second.now }
+    ensures { result ≡ list_any (λ b. is_hit rule (feature_lent a.now) b && record_covers position b) second.now }
 {
     second.iter().any(|b| hits(rule, a, &b.as_bed()) && record_covers(b, position))
 }

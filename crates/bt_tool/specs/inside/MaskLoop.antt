@@ -47,7 +47,7 @@ abbrev pub mask_join : MaskHow → JoinDef SequenceLine Feature
 mask_join how = record {
   decided = line_decided;
   bytes = λ line records. masked_line how records line;
-  limited = λ lines second. second;
+  within_limit = λ lines second. second;
   Fits = λ lines members. ⊤;
   -- the first record without a sequence
   last = λ lines members. no_sequence (names_of_sequences lines) members;

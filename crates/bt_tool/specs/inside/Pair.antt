@@ -27,7 +27,7 @@ pub record JoinDef (X Y : Type 0) : Type 1 where
   -- its bytes against them
   pub bytes : X → List Y → List ℕ
   -- what of the second input these members of the first meet, by a limit on what is held of it
-  pub limited : List X → Good Y → Good Y
+  pub within_limit : List X → Good Y → Good Y
   -- by these members of the first, no limit lies among these of the second
   pub Fits : List X → List (Member Y) → Type 0
   -- what is reported when all members of the first input are written, before the fault of the second
@@ -181,7 +181,7 @@ module _ {A B X Y U V : Type 0} (join : JoinDef X Y) (pair : Pair A B X Y U V)
         (λ good. (rest : List (Member Y)) × (good.members ≡ (past ++ m ∷ []) ++ rest))
     pub undecided : join.decided waiting (member_items (past ++ m ∷ [])) ≡ false
     pub cuts : IsKnown pair → (later : List X) (more : List (Member Y)) (other : Option FaultValue)
-        → join.limited (written ++ waiting ∷ later)
+        → join.within_limit (written ++ waiting ∷ later)
         (record { members = (past ++ m ∷ []) ++ more; fault = other })
         ≡ record { members = past ++ m ∷ []; fault = Some fault }
     pub kind : Kind

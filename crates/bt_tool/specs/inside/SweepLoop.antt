@@ -20,7 +20,7 @@ use Rattle.bt_bed.specs.calls.Reading.{MemberReader, ahead_in}
 use Rattle.bt_bed.specs.calls.Records.{last_locus, order_in, room, view_of}
 use Rattle.bt_bed.specs.declared.order.ChromOrder.{Ghosts}
 use Rattle.bt_bed.specs.declared.read.records.Records.{Records}
-use Rattle.bt_sweep.specs.model.Hits.{decided, are_too_many, cut_behind, limited}
+use Rattle.bt_sweep.specs.model.Hits.{decided, are_too_many, up_to_too_many, within_limit}
 use Rattle.bt_sweep.specs.model.Lines.{lines_for}
 use Rattle.bt_sweep.specs.calls.Sweeping.{StandsAt, leaves_some, Sweeping, phase_is_over, want_in}
 use Rattle.bt_bed.specs.calls.Stage.{Stage, given}
@@ -39,8 +39,8 @@ abbrev pub AreWithin : Order → Option ℕ → List Feature → List (Member Fe
 AreWithin order None as_given past = ⊤
 AreWithin order (Some most) as_given past =
     (later : List Feature) (more : List (Member Feature)) (fault : Option FaultValue)
-    → cut_behind (are_too_many order most (as_given ++ later)) [] (past ++ more) fault
-    ≡ cut_behind (are_too_many order most (as_given ++ later)) past more fault
+    → up_to_too_many (are_too_many order most (as_given ++ later)) [] (past ++ more) fault
+    ≡ up_to_too_many (are_too_many order most (as_given ++ later)) past more fault
 
 -- what a sweep goes by
 abbrev pub config_of : Sweeping → SweepConfig
@@ -51,7 +51,7 @@ abbrev pub sweep_join : Order → SweepConfig → JoinDef Feature Feature
 sweep_join order config = record {
   decided = decided order;
   bytes = lines_for config.shape config.rule;
-  limited = limited order config.limit;
+  within_limit = within_limit order config.limit;
   Fits = AreWithin order config.limit;
   last = λ all second. None;
   reaches = records_need order;

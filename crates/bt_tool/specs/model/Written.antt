@@ -20,7 +20,7 @@ use Rattle.bt_bed.specs.model.Meeting.{Report}
 use Rattle.std.specs.List.{list_all}
 use Rattle.bt_lines.specs.declared.fault.Kind.TheVariants.{TooManyHeld, TextBeforeHeader, TooFewColumns, EmptyName, BadStart, BadStop, EmptyFeature, OutOfOrder, NoSequence}
 use Rattle.bt_bed.specs.model.Sorted.{sorting_of}
-use Rattle.bt_sweep.specs.model.Hits.{decides, limited}
+use Rattle.bt_sweep.specs.model.Hits.{decides, within_limit}
 use Rattle.bt_sweep.specs.model.Lines.{intersect, intersect_met}
 use Rattle.bt_sweep.specs.declared.hits.hit_rule.HitRule.{HitRule}
 use Rattle.bt_sweep.specs.declared.output.shape.Shape.{Shape}
@@ -114,7 +114,7 @@ members_settle written format lines = written.settled (items_in (good format Fir
 abbrev pub met_within : Order → Shape → HitRule → Option ℕ → Good Feature → Good Feature
     → Report
 met_within order shape rule limit first second =
-    intersect_met order shape rule first (limited order limit (items_in first) second)
+    intersect_met order shape rule first (within_limit order limit (items_in first) second)
 
 -- the report of intersect on its inputs, in an order of their chromosomes
 abbrev pub intersect_report : Order → Shape → HitRule → Option ℕ → Handed → Handed → Report

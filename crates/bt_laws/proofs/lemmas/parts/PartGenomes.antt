@@ -11,7 +11,7 @@ use Rattle.bt_lines.specs.declared.fault.Input.{Input}
 use Rattle.bt_bed.specs.model.Feature.{Feature, interval_of, intervals_of, Interval, last_from, last_of}
 use Rattle.bt_bed.specs.model.BedLine.{record_of}
 use Rattle.bt_bed.specs.model.Genome.{Entry, genome_names}
-use Rattle.bt_bed.specs.model.Good.{good_from, bed_format, line_says}
+use Rattle.bt_bed.specs.model.Good.{good_after, bed_format, line_says}
 use Rattle.bt_bed.specs.model.Sorted.{Locus, sorting_of, has_records}
 use Rattle.bt_laws.specs.Parts.{LiesWithin, ComeBefore, StandsBefore, said_records}
 use Rattle.bt_laws.proofs.lemmas.parts.PartLines.{alike_records, records_on, Earlier, alike_lines, lines_join}
@@ -78,8 +78,8 @@ module _ (mine yours : Order) (P : List ℕ → Type 0) (agree : Agree mine your
   Mine (Some last) = P last.chrom
 
   -- what is good depends on the order by the names that come alone
-  pub agree_good : (last : Option Locus) (lines : List TextLine) → Mine last → AllByRecursion (λ r. P r.chrom) (records_on lines) → good_from (bed_format (sorting_of mine)) input last lines ≡ good_from (bed_format (sorting_of yours)) input last lines
-  unfolding good_from line_says
+  pub agree_good : (last : Option Locus) (lines : List TextLine) → Mine last → AllByRecursion (λ r. P r.chrom) (records_on lines) → good_after (bed_format (sorting_of mine)) input last lines ≡ good_after (bed_format (sorting_of yours)) input last lines
+  unfolding good_after line_says
   agree_good last [] m p = refl
   agree_good last (line ∷ lines) m p = grind (arith, (record_of line.text), all_front, all_back, (λ (now : Option Locus). agree_good now lines))
 

@@ -6,7 +6,7 @@ use Rattle.bt_lines.proofs.lemmas.reader.lines.TextLemmas.{lines_from-fed, lines
 use Rattle.bt_laws.specs.Parts.{StandsBefore, ends_line, ComeBefore, said_record, said_records}
 use Rattle.bt_lines.specs.model.Fault.{FaultValue}
 use Rattle.bt_lines.specs.declared.fault.Input.{Input}
-use Rattle.bt_bed.specs.model.Good.{Format, Good, good, good_from, items_in, bed_format, line_says, locus_at}
+use Rattle.bt_bed.specs.model.Good.{Format, Good, good, good_after, items_in, bed_format, line_says, locus_at}
 use Rattle.std.specs.declared.cmp.Ordering.TheVariants.{Less}
 use Rattle.bt_bed.specs.model.Feature.{Feature}
 use Rattle.bt_bed.specs.model.BedLine.{record_of}
@@ -88,8 +88,8 @@ module _ {A State : Type 0} (format : Format A State) where
   abbrev pub IsNumberless : Type 0
   IsNumberless = (state : State) (l m : TextLine) → l.text ≡ m.text → l.ending ≡ m.ending → format.says state l ≡ format.says state m
 
-  pub like_from : (input : Input) (state : State) (ls ms : List TextLine) → IsNumberless → AreAlike ls ms → IsLike (good_from format input state ls) (good_from format input state ms)
-  unfolding good_from
+  pub like_from : (input : Input) (state : State) (ls ms : List TextLine) → IsNumberless → AreAlike ls ms → IsLike (good_after format input state ls) (good_after format input state ms)
+  unfolding good_after
   like_from input state [] [] free alike = record { items = refl; fault = refl }
   like_from input state [] (m ∷ ms) free alike = absurd alike
   like_from input state (l ∷ ls) [] free alike = absurd alike
@@ -103,22 +103,22 @@ module _ {A State : Type 0} (format : Format A State) where
 
   module _ (input : Input) where
     -- what is good of lines and of others after them
-    pub go_from : (state : State) (ls ms : List TextLine) → good_from format input state (ls ++ ms)
-        ≡ put_on (good_from format input state ls).fault (good_from format input state ls) (good_from format input (reached state (items_in (good_from format input state ls))) ms)
-    unfolding good_from
+    pub go_from : (state : State) (ls ms : List TextLine) → good_after format input state (ls ++ ms)
+        ≡ put_on (good_after format input state ls).fault (good_after format input state ls) (good_after format input (reached state (items_in (good_after format input state ls))) ms)
+    unfolding good_after
     go_from state [] ms = refl
     go_from state (l ∷ ls) ms = grind (arith, (format.says state l), (λ (now : State). go_from now ls ms))
 
     -- of two texts, if what is good of the second is so after the members of the first
     pub good_joint : (one two : List ℕ) → StandsBefore one two → IsNumberless
-        → ((n : ℕ) → good_from format input (reached format.begin (items_in (good format input (text_lines one)))) (lines_from n two) ≡ good_from format input format.begin (lines_from n two))
+        → ((n : ℕ) → good_after format input (reached format.begin (items_in (good format input (text_lines one)))) (lines_from n two) ≡ good_after format input format.begin (lines_from n two))
         → IsJoint (good format input (text_lines one)) (good format input (text_lines two)) (good format input (text_lines (one ++ two)))
     good_joint one two ends free is = grind (arith, (lines_join 1 one two ends), go_from, map-append, like_from, alike_lines)
 
     -- what holds of each member that a line says, holds of the good members
     module _ (Q : A → Type 0) where
-      pub items_so : (state : State) (ls : List TextLine) → AllByRecursion (λ l. (now : State) (x : A) → format.says now l ≡ Ok (Some x) → Q x) ls → AllByRecursion Q (items_in (good_from format input state ls))
-      unfolding good_from
+      pub items_so : (state : State) (ls : List TextLine) → AllByRecursion (λ l. (now : State) (x : A) → format.says now l ≡ Ok (Some x) → Q x) ls → AllByRecursion Q (items_in (good_after format input state ls))
+      unfolding good_after
       items_so state [] q = tt
       items_so state (l ∷ ls) q = grind (arith, (q.0 state), (format.says state l), (λ (now : State). items_so now ls q.1))
 
@@ -146,7 +146,7 @@ module _ (sorting : Sorting) (input : Input) (Q : Feature → Type 0) where
   item_so : (line : TextLine) → AllByRecursion IfKnown (said_record (record_of line.text)) → (last : Option Locus) (r : Feature) → line_says sorting last line.text ≡ Ok (Some r) → Q r
   item_so line h last r e = grind (arith, (line_said sorting last line.text r e))
 
-  pub items_all : (last : Option Locus) (lines : List TextLine) → AllByRecursion IfKnown (records_on lines) → AllByRecursion Q (items_in (good_from (bed_format sorting) input last lines))
+  pub items_all : (last : Option Locus) (lines : List TextLine) → AllByRecursion IfKnown (records_on lines) → AllByRecursion Q (items_in (good_after (bed_format sorting) input last lines))
   items_all last lines q = grind (arith, items_so, all_so, item_so, all_parts)
 
 module _ (order : Order) (total : IsTotal order) where
@@ -156,8 +156,8 @@ module _ (order : Order) (total : IsTotal order) where
 
   module _ (input : Input) (last : Locus) (was : IsTrue (order.knows last.chrom)) where
     -- records on later chromosomes are as good as without those before
-    pub fresh_from : (ms : List TextLine) → Leading last.chrom (records_on ms) → good_from (bed_format (sorting_of order)) input (Some last) ms ≡ good_from (bed_format (sorting_of order)) input None ms
-    unfolding good_from line_says
+    pub fresh_from : (ms : List TextLine) → Leading last.chrom (records_on ms) → good_after (bed_format (sorting_of order)) input (Some last) ms ≡ good_after (bed_format (sorting_of order)) input None ms
+    unfolding good_after line_says
     fresh_from [] leads = refl
     fresh_from (m ∷ ms) leads = grind (arith, (fresh_from ms (all_back _ (said_record (record_of m.text)) (records_on ms) leads)), rules)
 
@@ -174,7 +174,7 @@ module _ (order : Order) (total : IsTotal order) where
     Leads None = Unit {0}
     Leads (Some last) = IsTrue (order.knows last.chrom) × Leading last.chrom (said_records two)
 
-    fresh : (input : Input) (n : ℕ) (last : Option Locus) → Leads last → good_from (bed_format (sorting_of order)) input last (lines_from n two) ≡ good_from (bed_format (sorting_of order)) input None (lines_from n two)
+    fresh : (input : Input) (n : ℕ) (last : Option Locus) → Leads last → good_after (bed_format (sorting_of order)) input last (lines_from n two) ≡ good_after (bed_format (sorting_of order)) input None (lines_from n two)
     fresh input n None leads = refl
     fresh input n (Some last) leads = grind (arith, fresh_from, (alike_records (text_lines two) (lines_from n two) (alike_lines 1 n two)), (alike_lines 1 n two))
 

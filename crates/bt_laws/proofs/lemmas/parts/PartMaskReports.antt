@@ -6,7 +6,7 @@ use Rattle.bt_lines.specs.declared.fault.Input.TheVariants.{First, Second}
 use Rattle.bt_lines.specs.declared.fault.Kind.TheVariants.{NoSequence}
 use Rattle.bt_bed.specs.model.Feature.{Feature}
 use Rattle.bt_bed.specs.model.BedLine.{fault_at_line}
-use Rattle.bt_bed.specs.model.Good.{Good, Member, good, items_in, block_format, good_from, line_says}
+use Rattle.bt_bed.specs.model.Good.{Good, Member, good, items_in, block_format, good_after, line_says}
 use Rattle.bt_bed.specs.model.Meeting.{Rule, join_report, written, Report}
 use Rattle.bt_bed.proofs.lemmas.Definitions.{met_fault_all, all_written, met_output, written_at}
 use Rattle.bt_seq.proofs.lemmas.definitions.KnowsLemmas.{leave, leave_all}
@@ -126,8 +126,8 @@ begins_elsewhere names rest ones kept [] lost = tt
 begins_elsewhere names rest ones kept (r ∷ rs) lost = apart_next names rest ones kept r rs lost
 
 -- if the first record that the lines say belongs to none, so does the first good one
-lost_good : (names : List (List ℕ)) (ones : List Feature) (ms : List TextLine) → IsLost names ones (records_on ms) → IsLost names ones (items_in (good_from block_format Second None ms))
-unfolding good_from line_says
+lost_good : (names : List (List ℕ)) (ones : List Feature) (ms : List TextLine) → IsLost names ones (records_on ms) → IsLost names ones (items_in (good_after block_format Second None ms))
+unfolding good_after line_says
 lost_good names ones [] lost = tt
 lost_good names ones (m ∷ ms) lost = grind (arith, (lost_good names ones ms))
 

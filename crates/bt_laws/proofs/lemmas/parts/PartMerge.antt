@@ -6,7 +6,7 @@ use Rattle.bt_bed.specs.model.BedLine.{interval_lines, interval_line}
 use Rattle.bt_bed.specs.model.Sorted.{has_records}
 use Rattle.bt_bed.specs.model.Order.{Order}
 use Rattle.bt_bed.proofs.lemmas.order.OrderLemmas.{placed_contiguous}
-use Rattle.bt_runs.specs.model.Merged.{counted, is_counted, chromosomes, merged, is_closed, merged_runs, passed_by, StrandRun, begun_by, is_in, listed_behind, places_of, runs_of_strand, settled_strand_runs, strand_runs}
+use Rattle.bt_runs.specs.model.Merged.{counted, is_counted, chromosomes, merged, is_closed, merged_runs, passed_by, StrandRun, begun_by, is_in, listed_after, places_of, runs_of_strand, settled_strand_runs, strand_runs}
 use Rattle.bt_runs.specs.calls.MergedRuns.{AreMergeable, settled_runs, kept_strand_runs}
 use Rattle.bt_runs.specs.declared.merge.merge_strand.MergeStrand.{MergeStrand}
 use Rattle.bt_runs.proofs.lemmas.order.FileOrder.{among_chromosomes, without_absent, ordered_come, spans_on-append, spans_on-none}
@@ -93,7 +93,7 @@ not_in : (item : StrandRun) (r : Feature) → Elsewhere r.chrom item → is_in i
 not_in item r e = grind arith
 
 -- what is listed is among the runs of the strands
-pub listed_all : (P : StrandRun → Type 0) (runs : Strand → List StrandRun) (before rs : List Feature) → ((strand : Strand) → AllByRecursion P (runs strand)) → AllByRecursion P (listed_behind runs before rs)
+pub listed_all : (P : StrandRun → Type 0) (runs : Strand → List StrandRun) (before rs : List Feature) → ((strand : Strand) → AllByRecursion P (runs strand)) → AllByRecursion P (listed_after runs before rs)
 listed_all P runs before [] h = tt
 listed_all P runs before (r ∷ rs) h = grind (arith, all_both, all_filter, (listed_all P runs (before ++ r ∷ []) rs h))
 
@@ -110,7 +110,7 @@ module _ (gap : ℕ) where
       (named_all (λ n. bytes_eq n name ≡ false) (counted (One strand) rs) (has_none name (counted (One strand) rs) (fewer (λ r. is_counted (One strand) r.strand) name rs e))))
 
   module _ (ones twos : List Feature) (away : Away (intervals_of ones) (intervals_of twos)) where
-    listed_first : (before rs : List Feature) → AllByRecursion (λ r. has_records r.chrom (intervals_of twos) ≡ false) rs → listed_behind (runs_of_strand gap (ones ++ twos)) before rs ≡ listed_behind (runs_of_strand gap ones) before rs
+    listed_first : (before rs : List Feature) → AllByRecursion (λ r. has_records r.chrom (intervals_of twos) ≡ false) rs → listed_after (runs_of_strand gap (ones ++ twos)) before rs ≡ listed_after (runs_of_strand gap ones) before rs
     listed_first before [] h = refl
     listed_first before (r ∷ rs) h =
         grind (arith, runs_both, map-append, filter-append, filter_none, all_so, items_elsewhere, append-nil, (listed_first (before ++ r ∷ []) rs h.1))
@@ -137,7 +137,7 @@ module _ (gap : ℕ) where
         (filter_same test here (runs_of_strand gap twos r.strand)
         (all_so (λ item. AllByRecursion (λ r. is_in item r ≡ false) ones) (λ item. test item ≡ here item) (runs_of_strand gap twos r.strand) (λ item none. ap (λ b. is_in item r && not b) (any_behind (is_in item) ones before none)) (none_first r.strand)))
 
-    listed_second : (before rs : List Feature) → AllByRecursion (λ r. has_records r.chrom (intervals_of ones) ≡ false) rs → listed_behind (runs_of_strand gap (ones ++ twos)) (ones ++ before) rs ≡ listed_behind (runs_of_strand gap twos) before rs
+    listed_second : (before rs : List Feature) → AllByRecursion (λ r. has_records r.chrom (intervals_of ones) ≡ false) rs → listed_after (runs_of_strand gap (ones ++ twos)) (ones ++ before) rs ≡ listed_after (runs_of_strand gap twos) before rs
     listed_second before [] h = refl
     listed_second before (r ∷ rs) h = grind (arith, (listed_second (before ++ r ∷ []) rs h.1), begun_second, append_assoc)
 

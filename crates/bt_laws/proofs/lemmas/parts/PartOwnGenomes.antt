@@ -21,7 +21,7 @@ use Rattle.bt_laws.proofs.lemmas.parts.PartSequences.{sound_from}
 use Rattle.bt_lines.specs.model.Lines.{Handed, lines_from, text_lines}
 use Rattle.bt_lines.specs.declared.fault.Input.{Input}
 use Rattle.bt_lines.specs.declared.fault.Input.TheVariants.{First, Second}
-use Rattle.bt_bed.specs.model.Good.{Good, good, good_from, items_in, bed_format}
+use Rattle.bt_bed.specs.model.Good.{Good, good, good_after, items_in, bed_format}
 use Rattle.bt_bed.specs.declared.record.strand.Strand.{Strand}
 use Rattle.bt_bed.proofs.lemmas.Definitions.{non_empty_from, placed_lines}
 use Rattle.bt_laws.proofs.lemmas.single.Records.{distinct_genome}
@@ -382,11 +382,11 @@ module _ (W : List Entry → Written Feature) (command : Command)
       grind (arith, (all_zip _ _ _ shards (λ shard has e. shard_lies (all_entries shards) shard has e) are.parts (all_unmap _ _ shards all)))
 
 pub complement_parts : complement_divides
-unfolding lines_from good_from complement
+unfolding lines_from good_after complement
 complement_parts limit = shards_add (λ entries. complement_written entries limit) (Complement limit) (λ entries first. refl) (gaps_split limit) refl
 
 pub genomecov_parts : genomecov_divides
-unfolding lines_from good_from coverage
+unfolding lines_from good_after coverage
 genomecov_parts zeros strand = shards_add (λ entries. coverage_written entries zeros strand) (Coverage zeros strand) (λ entries first. refl) (depths_split zeros strand) refl
 
 pub merge_genome_parts : merge_genomes_divide

@@ -5,7 +5,7 @@ use Rattle.bt_lines.specs.model.Lines.{TextLine, lines_from, text_lines}
 use Rattle.bt_lines.specs.declared.fault.Input.{Input}
 use Rattle.bt_lines.specs.declared.fault.Kind.TheVariants.{TextBeforeHeader}
 use Rattle.bt_lines.proofs.lemmas.reader.lines.TextLemmas.{lines_from-fed, lines_from-last, by_lines}
-use Rattle.bt_bed.specs.model.Good.{Format, Good, good, good_from, items_in, line_says as record_says, locus_at, block_format, bed_format}
+use Rattle.bt_bed.specs.model.Good.{Format, Good, good, good_after, items_in, line_says as record_says, locus_at, block_format, bed_format}
 use Rattle.bt_seq.specs.model.Masked.{is_unnamed, names_of_sequences, Reached, SequenceLine, header_behind, is_sequence_header, line_behind, sequence_says, may_stand, sequence_format}
 use Rattle.bt_laws.specs.Parts.{begins_sequence, name_on, sequence_names, StandsBefore, said_records}
 use Rattle.bt_laws.proofs.lemmas.parts.PartLines.{like_from, alike_lines, lines_join, IsLike, put_on, reached, go_from, alike_records, records_on, items_all}
@@ -52,8 +52,8 @@ module _ (full : Bool) (input : Input) where
   says_bases : (s : Reached) (line : TextLine) → is_sequence_header line.text ≡ false → is_unnamed s.names ≡ false → sequence_says full s line ≡ Ok (Some (line_behind s line))
   says_bases s line e named = grind arith
 
-  moved_from : (names : List (List ℕ)) (s : Reached) (ls : List TextLine) → is_unnamed s.names ≡ false → AreMoved names (good_from Fasta input (reached_after names s) ls) (good_from Fasta input s ls)
-  unfolding good_from
+  moved_from : (names : List (List ℕ)) (s : Reached) (ls : List TextLine) → is_unnamed s.names ≡ false → AreMoved names (good_after Fasta input (reached_after names s) ls) (good_after Fasta input s ls)
+  unfolding good_after
   moved_from names s [] named = grind arith
   moved_from names s (l ∷ ls) named =
       grind (
@@ -68,14 +68,14 @@ module _ (full : Bool) (input : Input) where
       )
 
   -- from a header on
-  moved_header : (r : Reached) (ls : List TextLine) → BeginsAtHeader ls → AreMoved r.names (good_from Fasta input r ls) (good_from Fasta input Fasta.begin ls)
-  unfolding good_from
+  moved_header : (r : Reached) (ls : List TextLine) → BeginsAtHeader ls → AreMoved r.names (good_after Fasta input r ls) (good_after Fasta input Fasta.begin ls)
+  unfolding good_after
   moved_header r [] h = grind arith
   moved_header r (l ∷ ls) h = grind (arith, (moved_from r.names (Fasta.after Fasta.begin (header_behind full Fasta.begin l)) ls refl))
 
   -- if a line is at fault, no line before it has a sequence
-  pub unnamed_from : (s : Reached) (ls : List TextLine) (fault : FaultValue) → (good_from Fasta input s ls).fault ≡ Some fault → AllByRecursion (λ line. is_unnamed line.names ≡ true) (items_in (good_from Fasta input s ls))
-  unfolding good_from
+  pub unnamed_from : (s : Reached) (ls : List TextLine) (fault : FaultValue) → (good_after Fasta input s ls).fault ≡ Some fault → AllByRecursion (λ line. is_unnamed line.names ≡ true) (items_in (good_after Fasta input s ls))
+  unfolding good_after
   unnamed_from s [] fault e = tt
   unnamed_from s (l ∷ ls) fault e = grind (arith, (λ (now : Reached). unnamed_from now ls fault), (λ (now : Reached). moved_from [] now ls))
 
@@ -100,8 +100,8 @@ module _ (full : Bool) (input : Input) where
     said : g.fault ≡ None → more ≡ named
     all : AllByRecursion (Begins (reached Fasta s (items_in g)).names) (items_in g)
 
-  grows_from : (s : Reached) (ls : List TextLine) → Grows s (good_from Fasta input s ls) (flat_map (λ line. name_on full line.text) ls)
-  unfolding good_from
+  grows_from : (s : Reached) (ls : List TextLine) → Grows s (good_after Fasta input s ls) (flat_map (λ line. name_on full line.text) ls)
+  unfolding good_after
   grows_from s [] = grind (arith, append-nil)
   grows_from s (l ∷ ls) = grind (arith, append-nil, append_assoc, (λ (now : Reached). grows_from now ls))
 
@@ -135,7 +135,7 @@ module _ (full : Bool) (input : Input) where
       (λ n piece rest clear is e. grind (arith, common_steps, (lines_from-fed n piece rest clear))) n text
 
   -- the lines of the second text, whatever the numbers of its lines
-  moved_lines : (r : Reached) (n : ℕ) (two : List ℕ) → IsTrue (begins_sequence two) → AreMoved r.names (good_from Fasta input r (lines_from n two)) (good Fasta input (text_lines two))
+  moved_lines : (r : Reached) (n : ℕ) (two : List ℕ) → IsTrue (begins_sequence two) → AreMoved r.names (good_after Fasta input r (lines_from n two)) (good Fasta input (text_lines two))
   moved_lines r n two e =
       let moved = moved_header r (lines_from n two) (header_first n two e) in
       grind (arith, (like_from Fasta input Fasta.begin (lines_from n two) (text_lines two) (λ state l m t d. same_said state l m t d) (alike_lines n 1 two)))
@@ -176,8 +176,8 @@ BeginsElsewhere last (r ∷ rs) = is_last last r.chrom ≡ false
 
 module _ (sorting : Sorting) (input : Input) where
   -- without a fault the records are all that the lines say
-  pub sound_from : (last : Option Locus) (ms : List TextLine) → (good_from (bed_format sorting) input last ms).fault ≡ None → items_in (good_from (bed_format sorting) input last ms) ≡ records_on ms
-  unfolding good_from record_says
+  pub sound_from : (last : Option Locus) (ms : List TextLine) → (good_after (bed_format sorting) input last ms).fault ≡ None → items_in (good_after (bed_format sorting) input last ms) ≡ records_on ms
+  unfolding good_after record_says
   sound_from last [] e = refl
   sound_from last (m ∷ ms) e = grind (arith, (record_of m.text), (λ (now : Option Locus). sound_from now ms))
 
@@ -187,14 +187,14 @@ among input P ms h = items_all block_sorting input P None ms (all_so _ _ (record
 
 module _ (input : Input) where
   -- records of which the first lies on another chromosome are as good as without those before
-  pub fresh_from : (last : Option Locus) (ms : List TextLine) → BeginsElsewhere (name_at last) (records_on ms) → good_from block_format input last ms ≡ good_from block_format input None ms
-  unfolding good_from record_says
+  pub fresh_from : (last : Option Locus) (ms : List TextLine) → BeginsElsewhere (name_at last) (records_on ms) → good_after block_format input last ms ≡ good_after block_format input None ms
+  unfolding good_after record_says
   fresh_from last [] h = refl
   fresh_from last (m ∷ ms) h = grind (arith, (record_of m.text), (records_on ms), (fresh_from last ms))
 
   -- and so are records without a fault
-  pub calm_from : (last : Option Locus) (ms : List TextLine) → (good_from block_format input last ms).fault ≡ None → good_from block_format input last ms ≡ good_from block_format input None ms
-  unfolding good_from record_says
+  pub calm_from : (last : Option Locus) (ms : List TextLine) → (good_after block_format input last ms).fault ≡ None → good_after block_format input last ms ≡ good_after block_format input None ms
+  unfolding good_after record_says
   calm_from last [] e = refl
   calm_from last (m ∷ ms) e = grind (arith, (record_of m.text), (calm_from last ms))
 
@@ -217,7 +217,7 @@ module _ (input : Input) where
     abbrev Last : Option Locus
     Last = reached block_format None (items_in First-good)
 
-    like_two : IsLike (good_from block_format input None Lines-behind) Second-good
+    like_two : IsLike (good_after block_format input None Lines-behind) Second-good
     like_two = like_from block_format input None Lines-behind (text_lines two) (λ state l m t d. ap (record_says block_sorting state) t) (alike_lines (lines_join 1 one two ends).0 1 two)
 
     -- the records of both
@@ -242,4 +242,4 @@ module _ (input : Input) where
 
     -- the records of the first text come first
     pub first_front : (more : List Feature) × (items_in Whole-good ≡ items_in First-good ++ more)
-    first_front = grind (arith, (front_by First-good.fault First-good (good_from block_format input Last Lines-behind)), (go_from block_format input None (text_lines one) Lines-behind))
+    first_front = grind (arith, (front_by First-good.fault First-good (good_after block_format input Last Lines-behind)), (go_from block_format input None (text_lines one) Lines-behind))

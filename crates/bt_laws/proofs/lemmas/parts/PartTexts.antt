@@ -2,7 +2,7 @@
 use Rattle.bt_lines.proofs.Std.{common_steps, rules, arith, ◌≡◌, ℕ, Bool, List, [], ◌∷◌, ◌++◌, append-nil, Option, Some, None, refl, sym, ap, ◌∙◌, map, Ok, flat_map-append, IsTrue, AllByRecursion, ◌⊎◌, append_assoc, inl, subst, flat_map, flat_map-map, inr}
 use Rattle.bt_lines.specs.model.Lines.{lines_from, text_lines, Handed}
 use Rattle.bt_lines.specs.declared.fault.Input.TheVariants.{First, Second}
-use Rattle.bt_bed.specs.model.Good.{Good, good, good_from, items_in, bed_format}
+use Rattle.bt_bed.specs.model.Good.{Good, good, good_after, items_in, bed_format}
 use Rattle.bt_seq.specs.model.Alignment.{Alignment, alignment_of, sam_format}
 use Rattle.bt_laws.specs.Parts.{AreOfLines, StandsBefore, joined, ComeBefore, said_records, bamtobed_divides, on_text, ArePairs, PairsAscend, Texts, TextsAscend, intersect_divides, joined_texts, merge_divides, on_texts, subtract_divides, PairsAddUp, AreAtHeaders, WritesOn, MaskTheirOwn, NoneMoves, begins_sequence, maskfasta_divides, repeated_names_divide, AddUp, StopWithin, outputs_to_fault}
 use Rattle.bt_bed.specs.model.Meeting.{Report}
@@ -56,7 +56,7 @@ module _ (split cigar : Bool) where
       (good_joint sam_format First one two ends (λ state l m e d. ap alignment_of e) (λ n. refl)) (lines_split _ _))
 
 pub sam_divides : bamtobed_divides
-unfolding report_of lines_from good_from
+unfolding report_of lines_from good_after
 sam_divides split cigar texts lines =
     parts_both joined (on_text (BamToBed split cigar) None) AreOfLines refl (λ t. ap (on_text (BamToBed split cigar) None) (append-nil t)) (λ t ts lines. lines.1)
     (λ t u ts fits. text_joins split cigar t (joined (u ∷ ts)) fits.0) texts lines
@@ -141,11 +141,11 @@ join_one part = grind (arith, append-nil)
 
 module _ (order : Order) (total : IsTotal order) where
   pub merge_empty : (d : ℕ) (strand : MergeStrand) → merge_report order total d strand [] ≡ nothing
-  unfolding lines_from good_from ordered_runs merged strand_runs
+  unfolding lines_from good_after ordered_runs merged strand_runs
   merge_empty d strand = grind arith
 
   pub pair_empty : (shape : Shape) (rule : HitRule) → pair_report order total shape rule [] [] ≡ nothing
-  unfolding lines_from good_from
+  unfolding lines_from good_after
   pair_empty shape rule = refl
 
 pub merge_parts : merge_divides
@@ -187,7 +187,7 @@ module _ (how : MaskHow) (full : Bool) where
   on_is parts = grind (arith, mask_is)
 
   empty : T (joined_texts []) ≡ nothing
-  unfolding lines_from good_from
+  unfolding lines_from good_after
   empty = refl
 
   alone : (t : Texts) → T (joined_texts (t ∷ [])) ≡ T t

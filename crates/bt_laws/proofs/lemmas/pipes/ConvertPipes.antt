@@ -5,7 +5,7 @@ use Rattle.bt_lines.specs.calls.Line.{NoLineFeed}
 use Rattle.bt_lines.specs.declared.fault.Input.{Input}
 use Rattle.bt_lines.specs.declared.fault.Input.TheVariants.{First}
 use Rattle.bt_lines.proofs.lemmas.reader.lines.TextLemmas.{IsColumn, IsInside, strip_last-other, lines_from-fed, lines_from-last, lines_from-nil, by_lines}
-use Rattle.bt_bed.specs.model.Good.{Good, good_from, items_in}
+use Rattle.bt_bed.specs.model.Good.{Good, good_after, items_in}
 use Rattle.bt_bed.specs.model.BedLine.{kept_columns, strand_of}
 use Rattle.bt_bed.specs.calls.Features.{IsName, columns_in}
 use Rattle.bt_bed.specs.declared.record.strand.Strand.TheVariants.{Plus, Minus}
@@ -199,7 +199,7 @@ module _ (full : Bool) (input : Input) (f : SequenceLine → List ℕ) (safe : (
   again_line line = with_text line (f line)
 
   abbrev goods : Reached → List TextLine → Good SequenceLine
-  goods reached lines = good_from (sequence_format full) input reached lines
+  goods reached lines = good_after (sequence_format full) input reached lines
 
   pub record IsAgain (lines : List SequenceLine) (again : Good SequenceLine) : Type 0 where
     pub items : items_in again ≡ map again_line lines
@@ -213,12 +213,12 @@ module _ (full : Bool) (input : Input) (f : SequenceLine → List ℕ) (safe : (
   ReadsAgain lines = (m : ℕ) (reached : Reached) → (goods reached lines).fault ≡ None → ReadAgain m reached lines
 
   piece_again : (n : ℕ) (piece : List ℕ) → NoLineFeed piece → ReadsAgain (last_line n piece)
-  unfolding good_from
+  unfolding good_after
   piece_again n [] clear m reached none = grind (arith, lines_from-nil)
   piece_again n (byte ∷ bytes) clear m reached none = grind (arith, (clear_strip 13 (byte ∷ bytes) clear), append-nil, last_by)
 
   next_again : (n : ℕ) (piece rest : List ℕ) → NoLineFeed piece → ReadsAgain (lines_from (suc n) rest) → ReadsAgain (fed_line n piece ∷ lines_from (suc n) rest)
-  unfolding good_from
+  unfolding good_after
   next_again n piece rest clear h m reached none = grind (arith, (clear_strip 13 piece clear), fed_by)
 
   last_again : (n : ℕ) (piece : List ℕ) → NoLineFeed piece → ReadsAgain (lines_from n piece)

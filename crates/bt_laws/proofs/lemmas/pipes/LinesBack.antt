@@ -10,7 +10,7 @@ use Rattle.bt_bed.specs.calls.Features.{IsName, columns_in, is_kept, IsFeature}
 use Rattle.bt_bed.proofs.lemmas.parse.FeatureLemmas.{header_says, record_said, said_is_feature, said_stands, pieces_are_columns}
 use Rattle.bt_laws.proofs.lemmas.single.Records.{written_feature, until_tab, IsDigit, decimal_digits, columns_text}
 use Rattle.bt_lines.specs.declared.fault.Input.{Input}
-use Rattle.bt_bed.specs.model.Good.{Good, good, good_from, items_in, bed_format, line_says, locus_at, bed_good}
+use Rattle.bt_bed.specs.model.Good.{Good, good, good_after, items_in, bed_format, line_says, locus_at, bed_good}
 use Rattle.bt_bed.specs.model.Sorted.{Locus, falls_in, sorting_of}
 use Rattle.bt_bed.specs.calls.Orders.{ArePlaced, IsPlacedBefore, IsTotal}
 use Rattle.bt_bed.specs.model.Order.{Order}
@@ -164,8 +164,8 @@ module _ (order : Order) (total : IsTotal order) where
 
     module _ (input : Input) where
       good_written : (n : ℕ) (last : Option Locus) (xs : List X) → AllByRecursion SaysLine xs → Follow last (said_of xs)
-          → IsGood (said_of xs) (good_from (bed_format (sorting_of order)) input last (lines_from n (flat_map line_for xs)))
-      unfolding good_from line_says
+          → IsGood (said_of xs) (good_after (bed_format (sorting_of order)) input last (lines_from n (flat_map line_for xs)))
+      unfolding good_after line_says
       good_written n last [] says follow = grind (arith, (lines_from-nil n))
       good_written n last (x ∷ xs) says follow =
           grind (

@@ -22,7 +22,7 @@ use Rattle.bt_runs.specs.declared.merge.merge_strand.MergeStrand.{MergeStrand}
 use Rattle.bt_runs.specs.declared.merge.merge_strand.MergeStrand.TheVariants.{All, Each, One}
 use Rattle.bt_laws.proofs.lemmas.single.StrandOrder.{in_order}
 use Rattle.bt_sweep.specs.model.Lines.{intersect, subtract_shape}
-use Rattle.bt_sweep.specs.model.Hits.{cut_behind, limited}
+use Rattle.bt_sweep.specs.model.Hits.{up_to_too_many, within_limit}
 use Rattle.bt_sweep.specs.declared.hits.hit_rule.HitRule.{HitRule}
 use Rattle.bt_sweep.specs.declared.output.shape.Shape.{Shape}
 use Rattle.bt_sweep.specs.declared.output.shape.Shape.TheVariants.{Pieces, Whole}
@@ -140,11 +140,11 @@ genomecov_input zeros strand inputs chromosomes well =
 -- ---- two inputs
 
 -- a limit without a fault of its own changes nothing
-cut_whole : (too : List Feature → Bool) (past members : List (Member Feature)) (fault : Option FaultValue) → (cut_behind too past members fault).fault ≡ None → cut_behind too past members fault ≡ record { members = past ++ members; fault = fault }
+cut_whole : (too : List Feature → Bool) (past members : List (Member Feature)) (fault : Option FaultValue) → (up_to_too_many too past members fault).fault ≡ None → up_to_too_many too past members fault ≡ record { members = past ++ members; fault = fault }
 cut_whole too past [] fault e = grind (arith, append-nil)
 cut_whole too past (m ∷ more) fault e = grind (arith, append_assoc, (cut_whole too (past ++ m ∷ []) more fault))
 
-pub limit_whole : (order : Order) (limit : Option ℕ) (first : List Feature) (second : Good Feature) → (limited order limit first second).fault ≡ None → limited order limit first second ≡ second
+pub limit_whole : (order : Order) (limit : Option ℕ) (first : List Feature) (second : Good Feature) → (within_limit order limit first second).fault ≡ None → within_limit order limit first second ≡ second
 limit_whole order limit first second e = grind (arith, cut_whole)
 
 -- without a fault all pairs are written, with a limit or without one

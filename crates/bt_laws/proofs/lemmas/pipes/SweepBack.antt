@@ -6,7 +6,7 @@ use Rattle.bt_bed.specs.model.Positions.{AreApartFrom, IsCovered}
 use Rattle.bt_bed.specs.model.BedLine.{is_header, bed_text, cut_to, kept_columns, strand_named}
 use Rattle.bt_bed.specs.calls.Orders.{ArePlaced, IsTotal}
 use Rattle.bt_bed.specs.model.Order.{Order}
-use Rattle.bt_sweep.specs.model.Hits.{hits, hits_among, shared_bases}
+use Rattle.bt_sweep.specs.model.Hits.{is_hit, hits_among, shared_bases}
 use Rattle.bt_sweep.specs.model.Lines.{cut, hit_line, intersect, lines_for, lines_of, pieces}
 use Rattle.bt_sweep.specs.calls.LineLaws.{IsLeft}
 use Rattle.bt_sweep.specs.declared.hits.hit_rule.HitRule.{HitRule}
@@ -105,12 +105,12 @@ clear_record : (b : Feature) → IsSaid b → NoLineFeed (bed_text b)
 clear_record b is = grind (arith, tail_clear)
 
 abbrev pub Hit : HitRule → Feature → Feature → Type 0
-Hit rule a b = IsSaid b × (hits rule a b ≡ true)
+Hit rule a b = IsSaid b × (is_hit rule a b ≡ true)
 
-pub cut_bounds : (rule : HitRule) (a b : Feature) → hits rule a b ≡ true → max a.start b.start < min a.stop b.stop
+pub cut_bounds : (rule : HitRule) (a b : Feature) → is_hit rule a b ≡ true → max a.start b.start < min a.stop b.stop
 cut_bounds rule a b h = grind (arith, hit_overlaps)
 
-pub same_name : (rule : HitRule) (a b : Feature) → hits rule a b ≡ true → a.chrom ≡ b.chrom
+pub same_name : (rule : HitRule) (a b : Feature) → is_hit rule a b ≡ true → a.chrom ≡ b.chrom
 same_name rule a b h = (bytes_decides a.chrom b.chrom).0 (overlap_parts a b (hit_overlaps rule a b h)).0
 
 module _ (rule : HitRule) (a : Feature) (is : IsSaid a) where

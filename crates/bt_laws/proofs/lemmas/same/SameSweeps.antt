@@ -7,10 +7,10 @@ use Rattle.bt_bed.specs.model.Feature.{Feature, interval_of, intervals_of, Inter
 use Rattle.bt_bed.specs.model.Positions.{IsCovered}
 use Rattle.bt_bed.specs.model.BedLine.{bed_text, interval_lines, record_of}
 use Rattle.bt_bed.specs.model.Genome.{Entry}
-use Rattle.bt_bed.specs.model.Good.{Good, items_in, good, good_from, or_else, bed_good, bed_format, line_says, said_after, good_handed}
+use Rattle.bt_bed.specs.model.Good.{Good, items_in, good, good_after, or_else, bed_good, bed_format, line_says, said_after, good_handed}
 use Rattle.bt_bed.specs.model.Meeting.{join_report}
 use Rattle.bt_bed.specs.model.Order.{Order, is_among}
-use Rattle.bt_sweep.specs.model.Hits.{hits_among, hits, strands_agree}
+use Rattle.bt_sweep.specs.model.Hits.{hits_among, is_hit, strands_agree}
 use Rattle.bt_sweep.specs.calls.Sweeping.{any_overlap}
 use Rattle.bt_sweep.specs.model.Lines.{hit_line, intersect, line_with, lines_for, lines_of, sweep_rule, pieces}
 use Rattle.bt_sweep.specs.calls.LineLaws.{spans_of}
@@ -117,11 +117,11 @@ one_base_lines both shape first bs = grind (arith, of_nothing)
 
 hit_some : (a : Feature) (bs : List Feature) (p : ℕ) → IsCovered (spans_of (hits_among any_overlap a bs)) p → Some_of (CoversOn a.chrom p) bs
 hit_some a [] p c = absurd c
-hit_some a (b ∷ bs) p c = grind (arith, (hit_some a bs p), (cases_Bool (hits any_overlap a b)), (same_name any_overlap a b))
+hit_some a (b ∷ bs) p c = grind (arith, (hit_some a bs p), (cases_Bool (is_hit any_overlap a b)), (same_name any_overlap a b))
 
 some_hit : (a : Feature) (bs : List Feature) (p : ℕ) → a.start ≤ p → p < a.stop → Some_of (CoversOn a.chrom p) bs
     → IsCovered (spans_of (hits_among any_overlap a bs)) p
-unfolding hits strands_agree
+unfolding is_hit strands_agree
 some_hit a [] p from to w = absurd w
 some_hit a (b ∷ bs) p from to (inl w) = grind (arith, name_eq, enough_of_nothing)
 some_hit a (b ∷ bs) p from to (inr w) = grind (arith, (some_hit a bs p from to w))
@@ -197,8 +197,8 @@ pub cut_none : (fault cut : Option FaultValue) → or_else fault cut ≡ None �
 cut_none fault cut e = grind arith
 
 module _ (one other : Sorting) (too : (last : Option Locus) (said : Result (Option Feature) Kind) → SaidToo (said_after one last said) (said_after other last said)) (from to : Input) where
-  like_from : (last : Option Locus) (lines : List TextLine) → (good_from (bed_format one) from last lines).fault ≡ None → IsLike (good_from (bed_format one) from last lines) (good_from (bed_format other) to last lines)
-  unfolding good_from line_says
+  like_from : (last : Option Locus) (lines : List TextLine) → (good_after (bed_format one) from last lines).fault ≡ None → IsLike (good_after (bed_format one) from last lines) (good_after (bed_format other) to last lines)
+  unfolding good_after line_says
   like_from last [] e = record { items = refl; faultless = refl }
   like_from last (line ∷ lines) e =
       grind (arith, (too last (record_of line.text)), (said_after one last (record_of line.text)), (λ (now : Option Locus). like_from now lines))

@@ -9,7 +9,7 @@ use Rattle.bt_lines.specs.declared.fault.Kind.TheVariants.{UnknownChrom}
 use Rattle.bt_bed.specs.model.Feature.{Interval, last_from}
 use Rattle.bt_bed.specs.model.BedLine.{record_of, ends_word, first_word, kept_columns}
 use Rattle.bt_bed.specs.calls.Features.{columns_in, said_are_features, IsName, is_kept}
-use Rattle.bt_bed.specs.model.Good.{good_from, line_says, block_format, bed_format}
+use Rattle.bt_bed.specs.model.Good.{good_after, line_says, block_format, bed_format}
 use Rattle.bt_bed.specs.model.Meeting.{Rule, join_report, written}
 use Rattle.bt_laws.specs.Records.{blocks_know_each_chromosome, good_stand_on_lines, first_lines_have_the_first, good_in_blocks_are_non_empty, good_in_blocks_stand_on_lines, genome_names_are_distinct, first_lines_make_entries, read_are_rewritten, written_are_read, StaysDecided, bytes_know_each_chromosome, first_difference_decides, prefixes_come_first, shared_are_common, stretches_are_one, contiguous_grows}
 use Rattle.bt_bed.specs.model.Sorted.{Locus, sorting_of, has_records}
@@ -42,8 +42,8 @@ abbrev Tells : Option FaultValue → Type 0
 Tells None = ⊤
 Tells (Some fault) = is_other fault.kind ≡ true
 
-from_other : (input : Input) (last : Option Locus) (lines : List TextLine) → Tells (good_from block_format input last lines).fault
-unfolding good_from line_says record_of is_other
+from_other : (input : Input) (last : Option Locus) (lines : List TextLine) → Tells (good_after block_format input last lines).fault
+unfolding good_after line_says record_of is_other
 from_other input last [] = tt
 from_other input last (line ∷ lines) = grind (arith, (λ (now : Option Locus). from_other input now lines))
 

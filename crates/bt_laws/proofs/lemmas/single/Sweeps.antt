@@ -6,7 +6,7 @@ use Rattle.bt_bed.specs.model.BedLine.{fault_at_line}
 use Rattle.bt_bed.specs.calls.Orders.{ArePlaced, IsTotal}
 use Rattle.bt_bed.specs.model.Order.{Order}
 use Rattle.bt_laws.proofs.lemmas.single.Records.{written_begins}
-use Rattle.bt_sweep.specs.model.Hits.{decided, decides, hits, strands_agree, are_too_many, cut_behind, held_for, is_held, limited}
+use Rattle.bt_sweep.specs.model.Hits.{decided, decides, is_hit, strands_agree, are_too_many, up_to_too_many, held_for, is_held, within_limit}
 use Rattle.bt_sweep.specs.model.Lines.{sweep_rule, intersect, intersect_met}
 use Rattle.bt_sweep.specs.declared.hits.hit_rule.HitRule.{HitRule}
 use Rattle.bt_sweep.specs.declared.output.shape.Shape.{Shape}
@@ -36,7 +36,7 @@ written_front order shape rule first more_first second more_second first_fault s
     written_begins (early_rule order shape rule second) (sweep_rule order shape rule (second ++ more_second) second_fault) first more_first first_fault (all_stay order shape rule first second more_second second_fault total known placed)
 
 pub of_nothing : both_of_nothing
-unfolding hits strands_agree
+unfolding is_hit strands_agree
 of_nothing = grind (arith, enough_of_nothing)
 
 -- The records taken are those before the first that decides all that was given.
@@ -122,8 +122,8 @@ limit_stopped order shape rule most first second before after a past more m is m
     let fault = fault_at_line Second m.line TooManyHeld in
     let is_many : too_many here ≡ true =
     ap (λ l. are_too_many order most l here) is ∙ many_by order most here before after a many.decided_before many.undecided ∙ lt-ltb most (length (filter (is_held a) here)) many.many in
-    let cut : limited order (Some most) all second ≡ record { members = past ++ m ∷ []; fault = Some fault } =
-    ap (λ l. cut_behind too_many [] l second.fault) members
+    let cut : within_limit order (Some most) all second ≡ record { members = past ++ m ∷ []; fault = Some fault } =
+    ap (λ l. up_to_too_many too_many [] l second.fault) members
     ∙ cut_past too_many [] past (m ∷ more) second.fault
     (λ front n rest e. enough_few order most (map (λ m. m.item) (front ++ n ∷ [])) all (enough (front ++ n ∷ []) rest (e ∙ sym (append_assoc front (n ∷ []) rest))))
     ∙ cut_here too_many past more m second.fault is_many in

@@ -4,7 +4,7 @@ use Rattle.bt_lines.specs.calls.Faults.{no_memory}
 use Rattle.bt_lines.specs.calls.Names.{fault_value}
 use Rattle.bt_lines.specs.calls.Output.{Output, Adds, FailsToAdd, Grown}
 use Rattle.bt_lines.specs.declared.fault.Fault.{Fault}
-use Rattle.bt_bed.specs.model.Feature.{Feature, Interval, interval_of, is_strand}
+use Rattle.bt_bed.specs.model.Feature.{Feature, Interval, interval_of, is_same_strand}
 use Rattle.bt_bed.specs.model.BedLine.{interval_line, interval_lines}
 use Rattle.bt_bed.proofs.lemmas.parse.NameLemmas.{name_eq, other_name}
 use Rattle.bt_runs.specs.calls.Engine.{AfterEach, fault_of}
@@ -61,7 +61,7 @@ module _ (gap : ℕ) (chrom : List ℕ) (r : Feature) where
   -- a record on their chromosome is added as to those without it
   pub added_placed : chrom ≡ r.chrom → (rest : List PendingRun) → with_added gap (placed_runs chrom rest) r ≡ placed_runs chrom (added (with_joined reach r.stop rest (place_of r.strand rest)) rest (pending_from r))
   added_placed on rest =
-      ap (added_at gap (placed_runs chrom rest) r) (last_place_map (λ item. is_strand item.strand r.strand) (placed_run chrom) rest)
+      ap (added_at gap (placed_runs chrom rest) r) (last_place_map (λ item. is_same_strand item.strand r.strand) (placed_run chrom) rest)
       ∙ ap (λ name. added (joined_at (λ item. is_closed gap (interval_of r) item.run) (run_with r) (placed_runs chrom rest) (place_of r.strand rest)) (placed_runs chrom rest) (placed_run name (pending_from r))) (sym on)
       ∙ added_map (placed_run chrom) (λ (w : PendingRun). nat_lt w.stop reach) (lengthened r.stop) (λ item. is_closed gap (interval_of r) item.run) (run_with r) (over_placed on) (λ w. refl) rest (pending_from r) (place_of r.strand rest)
 

@@ -1,11 +1,11 @@
 -- The runs of several strands, listed by their first records: what one more record does to the list.
 use Rattle.bt_lines.proofs.Std.{AllByRecursion, rules, ◌≡◌, ℕ, ◌≤◌, inl, inr, List, [], ◌∷◌, ◌++◌, append-nil, refl, sym, ap, ◌∙◌, subst, arith, cond, filter, length, map, Bool, true, false, not, ◌&&◌, list_any, cases_Bool, cond-true, cond-false, false≢true, map-append, ◌+◌, ◌<◌, ◌⊎◌, append_assoc, false_from_ne_true, filter-append, recursion_from_All, any-filter_same}
-use Rattle.bt_bed.specs.model.Feature.{Feature, interval_of, intervals_of, Interval, last_of, is_strand}
+use Rattle.bt_bed.specs.model.Feature.{Feature, interval_of, intervals_of, Interval, last_of, is_same_strand}
 use Rattle.bt_bed.specs.model.Sorted.{has_records}
 use Rattle.bt_bed.specs.calls.Orders.{AreContiguous}
 use Rattle.bt_bed.specs.declared.record.strand.Strand.{Strand}
 use Rattle.bt_bed.proofs.lemmas.order.OrderLemmas.{last_of-push}
-use Rattle.bt_runs.specs.model.Merged.{merged, is_closed, merged_runs, StrandRun, runs_of_strand, begun_by, is_in, listed_behind, strand_runs}
+use Rattle.bt_runs.specs.model.Merged.{merged, is_closed, merged_runs, StrandRun, runs_of_strand, begun_by, is_in, listed_after, strand_runs}
 use Rattle.bt_runs.specs.calls.MergedRuns.{AreMergeable, kept_runs, settled_runs}
 use Rattle.bt_runs.specs.inside.merge.UnstrandedStep.{runs_left_by, settled_by, runs_with}
 use Rattle.bt_runs.specs.inside.merge.StrandStep.{run_from, run_with}
@@ -17,7 +17,7 @@ use Rattle.bt_runs.proofs.lemmas.Lists.{Some_of, all_and, all_any, all_both, all
 use Rattle.bt_runs.proofs.lemmas.merge.SettledRuns.{next_taken, taken_front, whole_taken}
 
 -- strands that are one
-pub strand_self : (s : Strand) → is_strand s s ≡ true
+pub strand_self : (s : Strand) → is_same_strand s s ≡ true
 strand_self s = grind arith
 
 -- contiguous records: one before the next on its chromosome doesn't start after it
@@ -31,7 +31,7 @@ up_to (x ∷ y ∷ ys) r t = grind (arith, (up_to (y ∷ ys) r t.1), not_gone)
 
 -- a record is joined to a run of its strand that it doesn't close
 abbrev pub reaches : ℕ → Feature → StrandRun → Bool
-reaches gap r item = is_strand item.strand r.strand && not (is_closed gap (interval_of r) item.run)
+reaches gap r item = is_same_strand item.strand r.strand && not (is_closed gap (interval_of r) item.run)
 
 abbrev pub joined_to : ℕ → Feature → StrandRun → StrandRun
 joined_to gap r item = cond (reaches gap r item) (run_with r item) item
@@ -127,10 +127,10 @@ pub record Listed (gap : ℕ) (past : List Feature) : Type 0 where
   pub lies : AllByRecursion (λ p. Some_of (λ item. Lies item p) (strand_runs gap past)) past
   pub has : AllByRecursion (λ item. Some_of (λ p. Lies item p) past) (strand_runs gap past)
   pub apart : AllByRecursion (λ item. AllByRecursion (λ p. IsWithinOrFar gap item p) past) (strand_runs gap past)
-  pub split : (strand : Strand) → filter (λ item. is_strand item.strand strand) (strand_runs gap past) ≡ runs_of_strand gap past strand
+  pub split : (strand : Strand) → filter (λ item. is_same_strand item.strand strand) (strand_runs gap past) ≡ runs_of_strand gap past strand
 
-pub listed_append : (runs : Strand → List StrandRun) (before xs ys : List Feature) → listed_behind runs before (xs ++ ys) ≡ listed_behind runs before xs ++ listed_behind runs (before ++ xs) ys
-listed_append runs before [] ys = ap (λ l. listed_behind runs l ys) (sym (append-nil before))
+pub listed_append : (runs : Strand → List StrandRun) (before xs ys : List Feature) → listed_after runs before (xs ++ ys) ≡ listed_after runs before xs ++ listed_after runs (before ++ xs) ys
+listed_append runs before [] ys = ap (λ l. listed_after runs l ys) (sym (append-nil before))
 listed_append runs before (x ∷ xs) ys = grind (arith, (listed_append runs (before ++ x ∷ []) xs ys), append_assoc)
 
 module _ (gap : ℕ) (r : Feature) where
@@ -187,19 +187,19 @@ module _ (gap : ℕ) (past : List Feature) (r : Feature) (taken : AreMergeable (
   full = full_last past r taken.full
 
   reached_split : list_any (reaches gap r) (runs_of_strand gap past r.strand) ≡ some_reached
-  reached_split = rw (← (listed.split r.strand)) (any-filter_same (reaches gap r) (λ item. is_strand item.strand r.strand) true (λ item t. grind arith) (strand_runs gap past))
+  reached_split = rw (← (listed.split r.strand)) (any-filter_same (reaches gap r) (λ item. is_same_strand item.strand r.strand) true (λ item t. grind arith) (strand_runs gap past))
 
   -- the runs of each strand, with the record
-  leaves_other : (strand : Strand) (runs : List Interval) → is_strand strand r.strand ≡ false → map (joined_to gap r) (map (on_strand strand) runs) ≡ map (on_strand strand) runs
+  leaves_other : (strand : Strand) (runs : List Interval) → is_same_strand strand r.strand ≡ false → map (joined_to gap r) (map (on_strand strand) runs) ≡ map (on_strand strand) runs
   leaves_other strand [] other = refl
   leaves_other strand (run ∷ runs) other = grind (arith, (leaves_other strand runs other))
 
-  runs_next : (strand : Strand) → runs_of_strand gap (past ++ r ∷ []) strand ≡ map (joined_to gap r) (runs_of_strand gap past strand) ++ cond (is_strand strand r.strand) (new_run some_reached r) []
+  runs_next : (strand : Strand) → runs_of_strand gap (past ++ r ∷ []) strand ≡ map (joined_to gap r) (runs_of_strand gap past strand) ++ cond (is_same_strand strand r.strand) (new_run some_reached r) []
   runs_next strand = grind (arith, same_next, reached_split, leaves_other, append-nil, counted-append)
 
   -- what is so of each listed run is so of each run of a strand
   of_strand : (P : StrandRun → Type 0) → AllByRecursion P (strand_runs gap past) → (strand : Strand) → AllByRecursion P (runs_of_strand gap past strand)
-  of_strand P each strand = rw (← (listed.split strand)) (all_filter P (λ item. is_strand item.strand strand) (strand_runs gap past) each)
+  of_strand P each strand = rw (← (listed.split strand)) (all_filter P (λ item. is_same_strand item.strand strand) (strand_runs gap past) each)
 
   abbrev Same : StrandRun → Feature → Type 0
   Same item p = is_in (joined_to gap r item) p ≡ is_in item p
@@ -226,7 +226,7 @@ module _ (gap : ℕ) (past : List Feature) (r : Feature) (taken : AreMergeable (
       grind (arith, runs_next, filter-append, filter_changed, append-nil)
 
   front_same : (before rest : List Feature) → Stays (before ++ rest)
-      → listed_behind (runs_of_strand gap (past ++ r ∷ [])) before rest ≡ map (joined_to gap r) (listed_behind (runs_of_strand gap past) before rest)
+      → listed_after (runs_of_strand gap (past ++ r ∷ [])) before rest ≡ map (joined_to gap r) (listed_after (runs_of_strand gap past) before rest)
   front_same before [] s = refl
   front_same before (q ∷ qs) s = grind (arith, (front_same (before ++ q ∷ []) qs (subst Stays (sym (append_assoc before (q ∷ []) qs)) s)), (begun_same before q qs s), map-append)
 

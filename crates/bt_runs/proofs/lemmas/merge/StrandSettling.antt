@@ -1,7 +1,7 @@
 -- The settled runs of several strands and the kept ones, and what one more record does to them.
 use Rattle.bt_lines.proofs.Std.{AllByRecursion, any-filter_same, common_steps, ◌≡◌, ℕ, ◌≤◌, List, [], ◌∷◌, ◌++◌, append_assoc, append-nil, refl, sym, ap, ◌∙◌, subst, arith, drop, filter, get_or, length, map, set, Bool, true, false, not, ◌||◌, nat_lt, Option, Some, None, list_any, take_while, ⊤, is_some, and_left, cond-true, cond-false, false≢true, drop_all, drop_at, length-map, take-append-drop, length-prefix_len, take_while-cons, ◌<◌, ◌-◌, suc, ◌⊎◌, Result, Ok, Err, length-append, slice_get, set-get_or, get_or_from_slice_get, slice_get_read}
 use Rattle.std.proofs.Math.Seq.{map-set_same}
-use Rattle.bt_bed.specs.model.Feature.{Feature, interval_of, intervals_of, Interval, last_of, is_strand}
+use Rattle.bt_bed.specs.model.Feature.{Feature, interval_of, intervals_of, Interval, last_of, is_same_strand}
 use Rattle.bt_bed.specs.model.BedLine.{interval_line}
 use Rattle.bt_bed.proofs.lemmas.order.OrderLemmas.{last_of-push}
 use Rattle.bt_runs.specs.model.Merged.{is_closed, merged_runs, passed_by, runs_of_strand, StrandRun, closed_prefix, settled_strand_runs, strand_runs}
@@ -55,7 +55,7 @@ place_some test (x ∷ xs) = grind (arith, (place_some test xs))
 
 module _ (gap : ℕ) (r : Feature) where
   abbrev on_its : StrandRun → Bool
-  on_its item = is_strand item.strand r.strand
+  on_its item = is_same_strand item.strand r.strand
 
   -- of the runs of the record's strand it may reach the last one alone
   abbrev pub OnlyLast : List StrandRun → Type 0
@@ -67,7 +67,7 @@ module _ (gap : ℕ) (r : Feature) where
   only_behind (x ∷ xs) ys o = only_behind xs ys o.1
 
   not_reached : (item : StrandRun) → on_its item ≡ false → reaches gap r item ≡ false
-  not_reached item f = and_left (is_strand item.strand r.strand) (not (is_closed gap (interval_of r) item.run)) f
+  not_reached item f = and_left (is_same_strand item.strand r.strand) (not (is_closed gap (interval_of r) item.run)) f
 
   -- so it is if it is so of those of its strand alone
   pub only_filter : (xs : List StrandRun) → OnlyLast (filter on_its xs) → OnlyLast xs
@@ -94,7 +94,7 @@ module _ (gap : ℕ) (r : Feature) where
   added_is (x ∷ xs) o = grind (arith, (added_is xs o.1), added_later, place_some, added_here)
 
 -- what is so of the listed runs of each strand is so of all
-all_strands : (P : StrandRun → Type 0) (items : List StrandRun) → ((strand : Strand) → AllByRecursion (λ item. is_strand item.strand strand ≡ true → P item) items) → AllByRecursion P items
+all_strands : (P : StrandRun → Type 0) (items : List StrandRun) → ((strand : Strand) → AllByRecursion (λ item. is_same_strand item.strand strand ≡ true → P item) items) → AllByRecursion P items
 all_strands P [] each = tt
 all_strands P (x ∷ xs) each = ((each x.strand).0 (strand_self x.strand), all_strands P xs (λ strand. (each strand).1))
 
@@ -136,7 +136,7 @@ module _ (gap : ℕ) where
         let items = strand_runs gap past in
         let front = closed_prefix gap items (Some last) in
         let Still : StrandRun → Type 0 = λ item. passes last item ≡ true → passes (interval_of r) item ≡ true in
-        let still = all_strands Still items (λ strand. all_unfilter Still (λ item. is_strand item.strand strand) items (rw (listed.split strand) (closed_still last is strand))) in
+        let still = all_strands Still items (λ strand. all_unfilter Still (λ item. is_same_strand item.strand strand) items (rw (listed.split strand) (closed_still last is strand))) in
         all_zip (λ item. passes last item ≡ true) Still (λ item. passes (interval_of r) item ≡ true) front (λ item t so. so t) (front_passes (passes last) items)
         (all_front Still front (drop (length front) items) (rw (← (front_and_behind (passes last) items)) still))
 
@@ -231,7 +231,7 @@ set_counts : (runs : List PendingRun) (place stop : ℕ) (run : PendingRun) → 
 set_counts runs place stop run got =
     let strand_in : PendingRun → Strand = λ w. w.strand in
     let same = map-set_same strand_in runs place (lengthened stop run) run (ap strand_in (sym (get_or_from_slice_get runs place run run got))) in
-    let stays = λ (s : Strand). ap count_up_to (sym (last_place_map (λ t. is_strand t s) strand_in (set runs place (lengthened stop run))) ∙ ap (last_place (λ t. is_strand t s)) same ∙ last_place_map (λ t. is_strand t s) strand_in runs) in
+    let stays = λ (s : Strand). ap count_up_to (sym (last_place_map (λ t. is_same_strand t s) strand_in (set runs place (lengthened stop run))) ∙ ap (last_place (λ t. is_same_strand t s)) same ∙ last_place_map (λ t. is_same_strand t s) strand_in runs) in
     rw (stays Plus, stays Minus, stays Dot) refl
 
 pub joined_counts : (reach stop : ℕ) (runs new : List PendingRun) (place : ℕ) (joined : Bool) → (joined, new) ≡ with_joined reach stop runs (Some place) → counts_up_to_last new ≡ counts_up_to_last runs

@@ -1,7 +1,7 @@
 -- The steps of a merge that keeps the strands apart.
 use Rattle.std.specs.Prelude.{⊤, ℕ, suc, Bool, cond, List, [], ◌∷◌, ◌++◌, drop, length, set, Option, Some, None, true, false, not, ◌||◌, map, max, nat_lt, ◌≡◌, ◌⊎◌, Result, Ok, Err}
 use Rattle.std.specs.List.{slice_get, take_while}
-use Rattle.bt_bed.specs.model.Feature.{Feature, interval_of, is_strand}
+use Rattle.bt_bed.specs.model.Feature.{Feature, interval_of, is_same_strand}
 use Rattle.bt_bed.specs.declared.record.strand.Strand.{Strand}
 use Rattle.bt_bed.specs.declared.record.strand.Strand.TheVariants.{Plus, Minus, Dot}
 use Rattle.bt_runs.specs.model.Merged.{is_closed, StrandRun, closed_prefix}
@@ -65,11 +65,11 @@ added_at gap items r place =
 -- the runs with the record
 abbrev pub with_added : ℕ → List StrandRun → Feature → List StrandRun
 with_added gap items r =
-    added_at gap items r (last_place (λ item. is_strand item.strand r.strand) items)
+    added_at gap items r (last_place (λ item. is_same_strand item.strand r.strand) items)
 
 -- the place of the last run of a strand
 abbrev pub place_of : Strand → List PendingRun → Option ℕ
-place_of strand runs = last_place (λ (w : PendingRun). is_strand w.strand strand) runs
+place_of strand runs = last_place (λ (w : PendingRun). is_same_strand w.strand strand) runs
 
 -- how many elements there are up to the one at a place, that one too; 0 if there is no place
 abbrev pub count_up_to : Option ℕ → ℕ

@@ -2,7 +2,7 @@
 use Rattle.bt_lines.proofs.Std.{◌≡◌, ℕ, ◌-◌, ◌*◌, ◌<◌, Bool, true, false, not, ◌&&◌, ◌||◌, le-leb, cond, refl, ap, ◌∙◌, ltb, arith, max, min, bytes_eq, false≢true, and_from, and_parts, ◌≤◌, ◌⊎◌, List, [], ◌∷◌, ◌++◌, sym, subst, IsTrue, list_all, le-ltb, or_from, list_any-append, list_all-append, filter, append-nil, take, drop, AllByRecursion, list_any, take-append-drop, filter-append, recursion_from_All, Some, map-append, suc, Option, None, append_assoc, length, length-append, map, IfSome, if◌then◌else◌, nat_lt, find}
 use Rattle.bt_bed.specs.model.Feature.{Feature, interval_of, length_of, intervals_of, last_from}
 use Rattle.bt_bed.specs.model.BedLine.{fault_at_line}
-use Rattle.bt_sweep.specs.model.Hits.{has_fraction, hits, is_enough, shared_bases, strands_agree, decides, decided, hits_among, are_too_many, cut_behind, first_open, held_for, is_held}
+use Rattle.bt_sweep.specs.model.Hits.{has_fraction, is_hit, is_enough, shared_bases, strands_agree, decides, decided, hits_among, are_too_many, up_to_too_many, first_open, held_for, is_held}
 use Rattle.bt_sweep.specs.declared.hits.hit_rule.HitRule.{HitRule}
 use Rattle.std.specs.declared.cmp.Ordering.TheVariants.{Greater}
 use Rattle.bt_bed.specs.model.Order.{Order}
@@ -23,13 +23,13 @@ use Rattle.bt_sweep.specs.inside.Joining.{are_on, held_with}
 use Rattle.bt_bed.proofs.lemmas.Definitions.{all_written}
 
 -- what hits a record shares a base with it
-pub hit_overlaps : (rule : HitRule) (a b : Feature) → hits rule a b ≡ true → ltb 0 (shared_bases a b) ≡ true
-unfolding hits
+pub hit_overlaps : (rule : HitRule) (a b : Feature) → is_hit rule a b ≡ true → ltb 0 (shared_bases a b) ≡ true
+unfolding is_hit
 hit_overlaps rule a b e = (and_parts (ltb 0 (shared_bases a b)) (strands_agree rule a b && is_enough rule (shared_bases a b) a b) e).0
 
 -- what shares none doesn't hit it
-pub apart_misses : (rule : HitRule) (a b : Feature) → ltb 0 (shared_bases a b) ≡ false → hits rule a b ≡ false
-unfolding hits
+pub apart_misses : (rule : HitRule) (a b : Feature) → ltb 0 (shared_bases a b) ≡ false → is_hit rule a b ≡ false
+unfolding is_hit
 apart_misses rule a b e = ap (λ c. c && (strands_agree rule a b && is_enough rule (shared_bases a b) a b)) e
 
 -- where the shared bases lie
@@ -88,8 +88,8 @@ none_before order a bs b total ka placed e =
 
 -- Lemmas on hits: what decides a record doesn't hit it.
 
-misses_at : (rule : HitRule) (a : Feature) (x : Feature) (xs : List Feature) → hits rule a x ≡ false → filter (hits rule a) xs ≡ [] → filter (hits rule a) (x ∷ xs) ≡ []
-misses_at rule a x xs e rest = ap (λ b. cond b (x ∷ filter (hits rule a) xs) (filter (hits rule a) xs)) e ∙ rest
+misses_at : (rule : HitRule) (a : Feature) (x : Feature) (xs : List Feature) → is_hit rule a x ≡ false → filter (is_hit rule a) xs ≡ [] → filter (is_hit rule a) (x ∷ xs) ≡ []
+misses_at rule a x xs e rest = ap (λ b. cond b (x ∷ filter (is_hit rule a) xs) (filter (is_hit rule a) xs)) e ∙ rest
 
 -- so nothing that decides a does
 pub none_hit : (order : Order) (rule : HitRule) (a : Feature) (xs : List Feature) → IsTotal order → IsTrue (order.knows a.chrom) → ArePlaced order (intervals_of xs) → list_all (decides order a) xs ≡ true → hits_among rule a xs ≡ []
@@ -107,7 +107,7 @@ pub before_lines : lines_are_before
 unfolding lines_for
 before_lines order shape rule a b bs total ka e more placed =
     let back = placed_back order bs (b ∷ more) placed in
-    ap (lines_of shape a) (filter-append (hits rule a) bs (b ∷ more)
+    ap (lines_of shape a) (filter-append (is_hit rule a) bs (b ∷ more)
     ∙ ap (λ l. hits_among rule a bs ++ l) (none_hit order rule a (b ∷ more) total ka back (and_from (decides order a b) (list_all (decides order a) more) e (all_decide order a b more total ka back e)))
     ∙ append-nil (hits_among rule a bs))
 
@@ -116,21 +116,21 @@ module _ (rule : HitRule) (a : Feature) where
   none_rec [] all = refl
   none_rec (b ∷ bs) all = misses_at rule a b bs (grind (arith, apart_misses)) (none_rec bs all.1)
 
-  none_behind : (bs : List Feature) → AllByRecursion (λ b. a.stop ≤ b.start) bs → list_any (hits rule a) bs ≡ false
+  none_behind : (bs : List Feature) → AllByRecursion (λ b. a.stop ≤ b.start) bs → list_any (is_hit rule a) bs ≡ false
   none_behind [] all = refl
-  none_behind (b ∷ bs) all = or_from (hits rule a b) (list_any (hits rule a) bs) (grind (arith, apart_misses)) (none_behind bs all.1)
+  none_behind (b ∷ bs) all = or_from (is_hit rule a b) (list_any (is_hit rule a) bs) (grind (arith, apart_misses)) (none_behind bs all.1)
 
   -- so if none before it does, none does
-  pub none_left : (bs : List Feature) (n : ℕ) → list_any (hits rule a) (take n bs) ≡ false → StartFrom a.stop (drop n bs) → list_any (hits rule a) bs ≡ false
+  pub none_left : (bs : List Feature) (n : ℕ) → list_any (is_hit rule a) (take n bs) ≡ false → StartFrom a.stop (drop n bs) → list_any (is_hit rule a) bs ≡ false
   none_left bs n none behind =
       let rest = none_behind (drop n bs) (recursion_from_All (λ (b : Feature). a.stop ≤ b.start) (drop n bs) behind) in
-      grind (arith, (take-append-drop n bs), (list_any-append (hits rule a) (take n bs) (drop n bs)))
+      grind (arith, (take-append-drop n bs), (list_any-append (is_hit rule a) (take n bs) (drop n bs)))
 
   -- so what hits it is among what comes before that
   pub took_hits : (bs : List Feature) (n : ℕ) → StartFrom a.stop (drop n bs) → hits_among rule a (take n bs) ≡ hits_among rule a bs
   took_hits bs n behind =
       let none = none_rec (drop n bs) (recursion_from_All (λ (b : Feature). a.stop ≤ b.start) (drop n bs) behind) in
-      grind (arith, (append-nil (hits_among rule a (take n bs))), (filter-append (hits rule a) (take n bs) (drop n bs)), (take-append-drop n bs))
+      grind (arith, (append-nil (hits_among rule a (take n bs))), (filter-append (is_hit rule a) (take n bs) (drop n bs)), (take-append-drop n bs))
 
   -- and the lines are those against it
   pub took_lines : (shape : Shape) (bs : List Feature) (n : ℕ) → StartFrom a.stop (drop n bs) → lines_for shape rule a (take n bs) ≡ lines_for shape rule a bs
@@ -195,18 +195,18 @@ within_more limit a b held room within = grind (arith, length-append)
 -- after prefixes that aren't too many
 pub cut_past : (too_many : List Feature → Bool) (before past more : List (Member Feature)) (fault : Option FaultValue)
     → ((front : List (Member Feature)) (m : Member Feature) (rest : List (Member Feature)) → past ≡ front ++ m ∷ rest → too_many (map (λ m. m.item) (before ++ (front ++ m ∷ []))) ≡ false)
-    → cut_behind too_many before (past ++ more) fault ≡ cut_behind too_many (before ++ past) more fault
-cut_past too_many before [] more fault few = ap (λ l. cut_behind too_many l more fault) (sym (append-nil before))
+    → up_to_too_many too_many before (past ++ more) fault ≡ up_to_too_many too_many (before ++ past) more fault
+cut_past too_many before [] more fault few = ap (λ l. up_to_too_many too_many l more fault) (sym (append-nil before))
 cut_past too_many before (m ∷ past) more fault few =
     let here : too_many (map (λ m. m.item) (before ++ m ∷ [])) ≡ false = few [] m past refl in
-    ap (λ b. if b then record { members = before ++ m ∷ []; fault = Some (fault_at_line Second m.line TooManyHeld) } else cut_behind too_many (before ++ m ∷ []) (past ++ more) fault) here
+    ap (λ b. if b then record { members = before ++ m ∷ []; fault = Some (fault_at_line Second m.line TooManyHeld) } else up_to_too_many too_many (before ++ m ∷ []) (past ++ more) fault) here
     ∙ cut_past too_many (before ++ m ∷ []) past more fault
     (λ front n rest e. ap (λ l. too_many (map (λ m. m.item) l)) (append_assoc before (m ∷ []) (front ++ n ∷ [])) ∙ few (m ∷ front) n rest (ap (λ l. m ∷ l) e))
-    ∙ ap (λ l. cut_behind too_many l more fault) (append_assoc before (m ∷ []) past)
+    ∙ ap (λ l. up_to_too_many too_many l more fault) (append_assoc before (m ∷ []) past)
 
 -- at the first with which they are
 pub cut_here : (too_many : List Feature → Bool) (past more : List (Member Feature)) (m : Member Feature) (fault : Option FaultValue) → too_many (map (λ m. m.item) (past ++ m ∷ [])) ≡ true
-    → cut_behind too_many past (m ∷ more) fault ≡ record { members = past ++ m ∷ []; fault = Some (fault_at_line Second m.line TooManyHeld) }
+    → up_to_too_many too_many past (m ∷ more) fault ≡ record { members = past ++ m ∷ []; fault = Some (fault_at_line Second m.line TooManyHeld) }
 cut_here too_many past more m fault many = grind (arith)
 
 keeps_by : (c : Bool) (cut on : Good Feature) (past : List (Member Feature)) (m : Member Feature) → cut.members ≡ past ++ m ∷ [] → (rest : List (Member Feature)) × (on.members ≡ (past ++ m ∷ []) ++ rest)
@@ -216,7 +216,7 @@ keeps_by false cut on past m e f = f
 
 -- past one with which they aren't
 pub cut_on : (too_many : List Feature → Bool) (past more : List (Member Feature)) (m : Member Feature) (fault : Option FaultValue) → too_many (map (λ m. m.item) (past ++ m ∷ [])) ≡ false
-    → cut_behind too_many past (m ∷ more) fault ≡ cut_behind too_many (past ++ m ∷ []) more fault
+    → up_to_too_many too_many past (m ∷ more) fault ≡ up_to_too_many too_many (past ++ m ∷ []) more fault
 cut_on too_many past more m fault few = grind (arith)
 
 front_by : (c : Bool) (cut on : Good Feature) (past more : List (Member Feature)) (m : Member Feature) → cut.members ≡ past ++ m ∷ [] → (rest : List (Member Feature)) × ((past ++ m ∷ []) ++ more ≡ on.members ++ rest)
@@ -225,29 +225,29 @@ front_by true cut on past more m e f = (more, sym (append_assoc past (m ∷ []) 
 front_by false cut on past more m e f = (f.0, sym (append_assoc past (m ∷ []) more) ∙ f.1)
 
 -- what is left comes first
-pub cut_front : (too_many : List Feature → Bool) (past more : List (Member Feature)) (fault : Option FaultValue) → (rest : List (Member Feature)) × (past ++ more ≡ (cut_behind too_many past more fault).members ++ rest)
+pub cut_front : (too_many : List Feature → Bool) (past more : List (Member Feature)) (fault : Option FaultValue) → (rest : List (Member Feature)) × (past ++ more ≡ (up_to_too_many too_many past more fault).members ++ rest)
 cut_front too_many past [] fault = ([], refl)
 cut_front too_many past (m ∷ more) fault = grind (arith, (cut_front too_many (past ++ m ∷ []) more fault), front_by)
 
 -- whatever comes after them, members stay
-pub cut_keeps : (too_many : List Feature → Bool) (past more : List (Member Feature)) (fault : Option FaultValue) → (rest : List (Member Feature)) × ((cut_behind too_many past more fault).members ≡ past ++ rest)
+pub cut_keeps : (too_many : List Feature → Bool) (past more : List (Member Feature)) (fault : Option FaultValue) → (rest : List (Member Feature)) × ((up_to_too_many too_many past more fault).members ≡ past ++ rest)
 cut_keeps too_many past [] fault = ([], sym (append-nil past))
 cut_keeps too_many past (m ∷ more) fault =
-    let keeps = keeps_by (too_many (map (λ m. m.item) (past ++ m ∷ []))) (record { members = past ++ m ∷ []; fault = Some (fault_at_line Second m.line TooManyHeld) }) (cut_behind too_many (past ++ m ∷ []) more fault) past m refl
+    let keeps = keeps_by (too_many (map (λ m. m.item) (past ++ m ∷ []))) (record { members = past ++ m ∷ []; fault = Some (fault_at_line Second m.line TooManyHeld) }) (up_to_too_many too_many (past ++ m ∷ []) more fault) past m refl
     (cut_keeps too_many (past ++ m ∷ []) more fault) in
     (m ∷ keeps.0, keeps.1 ∙ append_assoc past (m ∷ []) keeps.0)
 
 -- and so does the next of them
-pub cut_next : (too_many : List Feature → Bool) (past more : List (Member Feature)) (m : Member Feature) (fault : Option FaultValue) → (rest : List (Member Feature)) × ((cut_behind too_many past (m ∷ more) fault).members ≡ (past ++ m ∷ []) ++ rest)
+pub cut_next : (too_many : List Feature → Bool) (past more : List (Member Feature)) (m : Member Feature) (fault : Option FaultValue) → (rest : List (Member Feature)) × ((up_to_too_many too_many past (m ∷ more) fault).members ≡ (past ++ m ∷ []) ++ rest)
 cut_next too_many past more m fault =
-    keeps_by (too_many (map (λ m. m.item) (past ++ m ∷ []))) (record { members = past ++ m ∷ []; fault = Some (fault_at_line Second m.line TooManyHeld) }) (cut_behind too_many (past ++ m ∷ []) more fault) past m refl
+    keeps_by (too_many (map (λ m. m.item) (past ++ m ∷ []))) (record { members = past ++ m ∷ []; fault = Some (fault_at_line Second m.line TooManyHeld) }) (up_to_too_many too_many (past ++ m ∷ []) more fault) past m refl
     (cut_keeps too_many (past ++ m ∷ []) more fault)
 
 -- if none is too many, nothing is cut
 pub cut_none : (too_many : List Feature → Bool) (past more : List (Member Feature)) (fault : Option FaultValue)
     → ((front : List (Member Feature)) (m : Member Feature) (rest : List (Member Feature)) → more ≡ front ++ m ∷ rest → too_many (map (λ m. m.item) (past ++ (front ++ m ∷ []))) ≡ false)
-    → cut_behind too_many past more fault ≡ record { members = past ++ more; fault = fault }
-cut_none too_many past more fault few = ap (λ l. cut_behind too_many past l fault) (sym (append-nil more)) ∙ cut_past too_many past more [] fault few
+    → up_to_too_many too_many past more fault ≡ record { members = past ++ more; fault = fault }
+cut_none too_many past more fault few = ap (λ l. up_to_too_many too_many past l fault) (sym (append-nil more)) ∙ cut_past too_many past more [] fault few
 
 -- nothing is held for no record
 pub none_many : (most : ℕ) → nat_lt most 0 ≡ false

@@ -9,7 +9,7 @@ use Rattle.bt_bed.proofs.lemmas.parse.NameLemmas.{same_name}
 use Rattle.bt_sweep.specs.calls.Held.{AreRising, AreRisingFrom}
 use Rattle.bt_sweep.specs.calls.Sweeping.{is_held}
 use Rattle.bt_bed.proofs.lemmas.StretchScans.{stretches_are_same, scan_finds}
-use Rattle.bt_sweep.specs.model.Hits.{hits, hits_among}
+use Rattle.bt_sweep.specs.model.Hits.{is_hit, hits_among}
 use Rattle.bt_sweep.specs.model.Lines.{piece_line, is_left, pieces}
 use Rattle.bt_sweep.specs.calls.LineLaws.{IsLeft, pieces_are, pieces_only, spans_of}
 use Rattle.bt_sweep.specs.inside.Pieces.{free_after, gap_lines, lines_before}
@@ -126,17 +126,17 @@ walk_finds : (a : Feature) (bs : List Feature) → AreWithin a.stop bs → AreRi
 walk_finds a bs within rises = grind (arith, (walk_walks a.start a.stop 0 bs within rises), only_pieces, (apart_down 0 a.start (walk a.start a.stop bs) (omega arith) (walk_walks a.start a.stop 0 bs within rises).apart))
 
 module _ (rule : HitRule) (a : Feature) where
-  within_at : (b : Feature) (bs : List Feature) (c : Bool) → hits rule a b ≡ c → AreWithin a.stop (hits_among rule a bs) → AreWithin a.stop (cond c (b ∷ hits_among rule a bs) (hits_among rule a bs))
+  within_at : (b : Feature) (bs : List Feature) (c : Bool) → is_hit rule a b ≡ c → AreWithin a.stop (hits_among rule a bs) → AreWithin a.stop (cond c (b ∷ hits_among rule a bs) (hits_among rule a bs))
   within_at b bs c e rest = grind (arith, hit_overlaps)
 
   hits_within : (bs : List Feature) → AreWithin a.stop (hits_among rule a bs)
   hits_within [] = tt
-  hits_within (b ∷ bs) = within_at b bs (hits rule a b) refl (hits_within bs)
+  hits_within (b ∷ bs) = within_at b bs (is_hit rule a b) refl (hits_within bs)
 
   -- the lines of the pieces, by a walk over what is held
   pub walked : (held : List Feature) → AreRising held
       → lines_before a a.start (hits_among rule a held) ++ gap_lines a (free_after a.start (hits_among rule a held)) a.stop ≡ flat_map (piece_line a) (pieces a (hits_among rule a held))
-  walked held rises = grind (arith, (walk_lines a a.start a.stop (hits_among rule a held)), (walk_finds a (hits_among rule a held) (hits_within held) (rising_filter (hits rule a) 0 held rises)))
+  walked held rises = grind (arith, (walk_lines a a.start a.stop (hits_among rule a held)), (walk_finds a (hits_among rule a held) (hits_within held) (rising_filter (is_hit rule a) 0 held rises)))
 
 -- a record that nothing hits is one piece, if it has a base
 pub walked_alone : (a : Feature) → gap_lines a a.start a.stop ≡ flat_map (piece_line a) (pieces a [])

@@ -2,7 +2,7 @@
 use Rattle.bt_lines.proofs.Std.{common_steps, ◌≡◌, true, List, ap, ltb, arith, filter, and_from, ◌<◌, ℕ, Bool, cond, [], ◌∷◌, length, Option, Some, None, refl, sym, ◌∙◌, All, IfSome, slice_index_or, AllByRecursion, false≢true, All-filter, All-from_recursion, recursion_from_All, ◌⊎◌, false, ◌++◌, Ok, Err, Result, subst, append-nil, append_assoc, decimal, OnOk, is_ok, decimal_digit, ◌≤◌, not, list_all, and_parts, flat_map-append, list_any-append, list_all-append, ◌&&◌}
 use Rattle.bt_bed.specs.model.Feature.{Feature, intervals_of}
 use Rattle.bt_bed.specs.model.BedLine.{bed_text}
-use Rattle.bt_sweep.specs.model.Hits.{hits, decided, decides}
+use Rattle.bt_sweep.specs.model.Hits.{is_hit, decided, decides}
 use Rattle.bt_sweep.specs.model.Lines.{lines_of, lines_for, line_with, intersect}
 use Rattle.bt_sweep.specs.calls.Sweeping.{is_held, Sweeping, AreDecided, HoldsFor, SameConfig, held_for, last_given, GivesKnown}
 use Rattle.bt_sweep.specs.declared.hits.hit_rule.HitRule.{HitRule}
@@ -39,7 +39,7 @@ use Rattle.bt_bed.specs.declared.read.records.Records.{Records}
 
 pub held_lines : (shape : Shape) (rule : HitRule) (a : Feature) (taken : List Feature) → lines_for shape rule a (filter (is_held a) taken) ≡ lines_for shape rule a taken
 unfolding lines_for
-held_lines shape rule a taken = ap (lines_of shape a) (filter-wider (hits rule a) (is_held a) (grind (arith, hit_overlaps)) taken)
+held_lines shape rule a taken = ap (lines_of shape a) (filter-wider (is_hit rule a) (is_held a) (grind (arith, hit_overlaps)) taken)
 
 -- Lemmas on what a sweep keeps.
 

@@ -16,7 +16,7 @@ use Rattle.bt_bed.specs.calls.Reading.{LinesPass, IsBeyond, MemberReader, Remain
 use Rattle.bt_lines.specs.declared.fault.Input.{Input}
 use Rattle.bt_lines.specs.declared.fault.Kind.{Kind}
 use Rattle.bt_bed.proofs.lemmas.read.good.SaidLemmas.{beyond_from}
-use Rattle.bt_bed.specs.model.Good.{with_member, Format, Good, Member, ends_with, good, good_from}
+use Rattle.bt_bed.specs.model.Good.{with_member, Format, Good, Member, ends_with, good, good_after}
 use Rattle.bt_bed.specs.model.BedLine.{fault_at_line}
 use Rattle.bt_lines.proofs.lemmas.reader.block.ReadsLemmas.{hands_both, hands_none}
 
@@ -140,13 +140,13 @@ remains_if : {A : Type 0} (a b : Option (Good A)) (P : Good A → Type 0) → Re
 remains_if a b P r h = grind arith
 
 module _ {A State : Type 0} (format : Format A State) (input : Input) (state : State) where
-  said_none : (line : TextLine) (lines : List TextLine) → format.says state line ≡ Ok None → good_from format input state lines ≡ good_from format input state (line ∷ lines)
-  unfolding good_from
+  said_none : (line : TextLine) (lines : List TextLine) → format.says state line ≡ Ok None → good_after format input state lines ≡ good_after format input state (line ∷ lines)
+  unfolding good_after
   said_none line lines e = rw e refl
 
   said_some : (line : TextLine) (lines : List TextLine) (item : A) → format.says state line ≡ Ok (Some item)
-      → good_from format input state (line ∷ lines) ≡ with_member (record { line = line.number; item = item }) (good_from format input (format.after state item) lines)
-  unfolding good_from
+      → good_after format input state (line ∷ lines) ≡ with_member (record { line = line.number; item = item }) (good_after format input (format.after state item) lines)
+  unfolding good_after
   said_some line lines item e = rw e refl
 
   -- after a line that says nothing what was to come still comes
@@ -159,11 +159,11 @@ module _ {A State : Type 0} (format : Format A State) (input : Input) (state : S
       → IfSome (option_map (good_behind format input None state) a) (λ good. (rest : List (Member A)) × (good.members ≡ record { line = line.number; item = item } ∷ rest))
   good_first line item None h e = tt
   good_first line item (Some lines) h e =
-      ((good_from format input (format.after state item) h.0).members, ap (λ l. (good_from format input state l).members) h.1 ∙ ap (λ g. g.members) (said_some line h.0 item e))
+      ((good_after format input (format.after state item) h.0).members, ap (λ l. (good_after format input state l).members) h.1 ∙ ap (λ g. g.members) (said_some line h.0 item e))
 
   wrong_good : (line : TextLine) (lines : List TextLine) (kind : Kind) → format.says state line ≡ Err kind
-      → good_from format input state (line ∷ lines) ≡ ends_with (Some (fault_at_line input line.number kind))
-  unfolding good_from
+      → good_after format input state (line ∷ lines) ≡ ends_with (Some (fault_at_line input line.number kind))
+  unfolding good_after
   wrong_good line lines kind e = rw e refl
 
   -- a line at fault is all that was to come
@@ -174,7 +174,7 @@ module _ {A State : Type 0} (format : Format A State) (input : Input) (state : S
   -- if no line is left, no member is
   good_end : (a : Option (List TextLine)) → IfSome a (λ lines. lines ≡ [])
       → IfSome (option_map (good_behind format input None state) a) (λ good. good ≡ ends_with None)
-  unfolding good_from
+  unfolding good_after
   good_end a h = grind arith
 
 buffered_below : {S : Type 0} (reader : LineReader S) → 0 < length (buffered_bytes reader) → suc (lines_given reader) < 2 ^ 63

@@ -9,7 +9,7 @@ use Rattle.bt_lines.specs.model.Fault.{FaultValue}
 use Rattle.bt_lines.specs.model.Lines.{TextLine}
 use Rattle.bt_lines.specs.calls.Line.{AreNumbered}
 use Rattle.bt_lines.specs.declared.fault.Input.{Input}
-use Rattle.bt_bed.specs.model.Good.{Format, Good, Member, good_from, good_with}
+use Rattle.bt_bed.specs.model.Good.{Format, Good, Member, good_after, good_with}
 use Rattle.bt_bed.specs.calls.Reading.{AreAscending, IsBeyond, IsFaultBeyond, is_of_line}
 
 -- what a line says is a feature that a line can say
@@ -50,24 +50,24 @@ module _ {A State : Type 0} (format : Format A State) (input : Input) where
       ascend_less number (m ∷ ms) h = (let above = h.0 in omega arith, h.1)
   ascend_with number state (Ok (Some item)) rest h = (omega arith, h (format.after state item))
 
-  pub ascend_from : (number : ℕ) (state : State) (lines : List TextLine) → AreNumbered number lines → AreAscending number (good_from format input state lines).members
-  unfolding good_from
+  pub ascend_from : (number : ℕ) (state : State) (lines : List TextLine) → AreNumbered number lines → AreAscending number (good_after format input state lines).members
+  unfolding good_after
   ascend_from number state [] n = tt
   ascend_from number state (line ∷ lines) n =
-      subst (λ k. AreAscending k (good_with format input line.number state (format.says state line) (λ now. good_from format input now lines)).members) n.0
-      (ascend_with line.number state (format.says state line) (λ now. good_from format input now lines)
-      (λ now. subst (λ k. AreAscending (suc k) (good_from format input now lines).members) (sym n.0) (ascend_from (suc number) now lines n.1)))
+      subst (λ k. AreAscending k (good_with format input line.number state (format.says state line) (λ now. good_after format input now lines)).members) n.0
+      (ascend_with line.number state (format.says state line) (λ now. good_after format input now lines)
+      (λ now. subst (λ k. AreAscending (suc k) (good_after format input now lines).members) (sym n.0) (ascend_from (suc number) now lines n.1)))
 
   within_with : (last number : ℕ) (state : State) (said : Result (Option A) Kind) (rest : State → Good A) → number ≤ last
       → ((now : State) → All (λ m. m.line ≤ last) (rest now).members) → All (λ m. m.line ≤ last) (good_with format input number state said rest).members
   within_with last number state said rest n h = grind arith
 
   -- and none is on a line after the last of them
-  pub within_from : (last number : ℕ) (state : State) (lines : List TextLine) → AreNumbered number lines → number + length lines ≤ suc last → All (λ m. m.line ≤ last) (good_from format input state lines).members
-  unfolding good_from
+  pub within_from : (last number : ℕ) (state : State) (lines : List TextLine) → AreNumbered number lines → number + length lines ≤ suc last → All (λ m. m.line ≤ last) (good_after format input state lines).members
+  unfolding good_after
   within_from last number state [] n e = All-nil (λ m. m.line ≤ last)
   within_from last number state (line ∷ lines) n e =
-      within_with last line.number state (format.says state line) (λ now. good_from format input now lines) (let same = n.0 in omega arith) (λ now. within_from last (suc number) now lines n.1 (omega arith))
+      within_with last line.number state (format.says state line) (λ now. good_after format input now lines) (let same = n.0 in omega arith) (λ now. within_from last (suc number) now lines n.1 (omega arith))
 
 ascending_beyond : {A : Type 0} (count line : ℕ) (members : List (Member A)) → count < line → AreAscending line members → All (λ m. count < m.line) members
 ascending_beyond {A} count line [] low asc = All-nil (λ (m : Member A). count < m.line)
@@ -78,16 +78,16 @@ module _ {A State : Type 0} (format : Format A State) (input : Input) where
       → ((now : State) → IfSome (rest now).fault (IsFaultBeyond count)) → IfSome (good_with format input number state said rest).fault (IsFaultBeyond count)
   fault_with count number state said rest low h = grind arith
 
-  fault_from : (count number : ℕ) (state : State) (lines : List TextLine) → count < number → AreNumbered number lines → IfSome (good_from format input state lines).fault (IsFaultBeyond count)
-  unfolding good_from
+  fault_from : (count number : ℕ) (state : State) (lines : List TextLine) → count < number → AreNumbered number lines → IfSome (good_after format input state lines).fault (IsFaultBeyond count)
+  unfolding good_after
   fault_from count number state [] low n = tt
   fault_from count number state (line ∷ lines) low n =
-      fault_with count line.number state (format.says state line) (λ now. good_from format input now lines) (omega arith) (λ now. fault_from count (suc number) now lines (omega arith) n.1)
+      fault_with count line.number state (format.says state line) (λ now. good_after format input now lines) (omega arith) (λ now. fault_from count (suc number) now lines (omega arith) n.1)
 
   -- what is good of the lines after the first `count` is on lines after `count`
-  pub beyond_from : (count : ℕ) (state : State) (lines : List TextLine) → AreNumbered (suc count) lines → IsBeyond count (good_from format input state lines)
+  pub beyond_from : (count : ℕ) (state : State) (lines : List TextLine) → AreNumbered (suc count) lines → IsBeyond count (good_after format input state lines)
   beyond_from count state lines n = record {
-    members = ascending_beyond count (suc count) (good_from format input state lines).members (omega arith) (ascend_from format input (suc count) state lines n);
+    members = ascending_beyond count (suc count) (good_after format input state lines).members (omega arith) (ascend_from format input (suc count) state lines n);
     fault = fault_from count (suc count) state lines (omega arith) n;
   }
 
@@ -115,10 +115,10 @@ module _ {A State : Type 0} (format : Format A State) (input : Input) where
 
   -- what is good of the first lines are the members up to the last of these, if the others are after it
   pub first_from : (more : ℕ) {count : ℕ} (number : ℕ) (state : State) (lines : List TextLine) {past rest : List (Member A)} {fault : Option FaultValue} → suc count ≡ number + more → AreNumbered number lines
-      → (good_from format input state lines).members ≡ past ++ rest → (good_from format input state lines).fault ≡ fault
+      → (good_after format input state lines).members ≡ past ++ rest → (good_after format input state lines).fault ≡ fault
       → All (λ m. m.line ≤ count) past → IsBeyond count (record { members = rest; fault = fault })
-      → good_from format input state (take more lines) ≡ record { members = past; fault = None }
-  unfolding good_from
+      → good_after format input state (take more lines) ≡ record { members = past; fault = None }
+  unfolding good_after
   first_from zero {count} number state lines size n e f up beyond =
       let start : number ≡ suc count = omega arith in
       grind (arith, none_up_to, (ascend_from format input number state lines n))

@@ -8,7 +8,7 @@ use Rattle.bt_lines.specs.declared.fault.Input.{Input}
 use Rattle.bt_bed.proofs.lemmas.Definitions.{line_said}
 use Rattle.bt_bed.specs.model.Feature.{Feature}
 use Rattle.bt_bed.specs.model.BedLine.{record_of}
-use Rattle.bt_bed.specs.model.Good.{Format, good_from, bed_format, line_says, locus_at, said_after}
+use Rattle.bt_bed.specs.model.Good.{Format, good_after, bed_format, line_says, locus_at, said_after}
 use Rattle.bt_bed.specs.model.Sorted.{Locus, Sorting, falls_in}
 use Rattle.bt_bed.specs.calls.Reading.{AreSaid, members_from, state_behind, with_members}
 use Rattle.bt_bed.specs.calls.Bed.{last_start, record_on, run_of, record_in, is_some_left}
@@ -29,13 +29,13 @@ LinesSay format state (line ∷ lines) (item ∷ items) = (format.says state lin
 
 module _ {A State : Type 0} (format : Format A State) (input : Input) where
   said_one : (state : State) (line : TextLine) (lines : List TextLine) (item : A) → format.says state line ≡ Ok (Some item)
-      → good_from format input state (line ∷ lines) ≡ with_members (record { line = line.number; item = item } ∷ []) (good_from format input (format.after state item) lines)
-  unfolding good_from
+      → good_after format input state (line ∷ lines) ≡ with_members (record { line = line.number; item = item } ∷ []) (good_after format input (format.after state item) lines)
+  unfolding good_after
   said_one state line lines item e = rw e refl
 
   -- the items are the first of what is good
   pub good_said : (number : ℕ) (state : State) (lines : List TextLine) (items : List A) → AreNumbered number lines → LinesSay format state lines items
-      → with_members (members_from number items) (good_from format input (state_behind format state items) (drop (length items) lines)) ≡ good_from format input state lines
+      → with_members (members_from number items) (good_after format input (state_behind format state items) (drop (length items) lines)) ≡ good_after format input state lines
   good_said number state lines [] n say = refl
   good_said number state [] (item ∷ items) n say = absurd say
   good_said number state (line ∷ lines) (item ∷ items) n say = grind (arith, (good_said (suc number) (format.after state item) lines items n.1 say.1), said_one)

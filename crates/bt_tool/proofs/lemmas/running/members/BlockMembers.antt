@@ -30,7 +30,7 @@ use Rattle.bt_lines.specs.declared.reader.buffered_lines.ConsumedLines.{Consumed
 use Rattle.bt_lines.specs.declared.fault.Kind.{Kind}
 use Rattle.bt_lines.specs.declared.fault.Kind.TheVariants.{TextBeforeHeader}
 use Rattle.bt_bed.proofs.lemmas.read.good.ReadingLemmas.{near_pass, drops_pass, left_numbered, some_bytes, Going, going_end, going_start, going_unread}
-use Rattle.bt_bed.specs.model.Good.{Good, Member, good_from}
+use Rattle.bt_bed.specs.model.Good.{Good, Member, good_after}
 use Rattle.bt_seq.specs.calls.MaskStage.{SayEach}
 use Rattle.bt_seq.specs.model.Masked.{Reached, SequenceLine, sequence_says, sequence_format}
 use Rattle.bt_tool.specs.inside.MaskLoop.{line_members}
@@ -129,7 +129,7 @@ module _ {S : Type 0} (device : Source S) (full : Bool) where
   }
 
   good_lines : (reached : Reached) (items : List SequenceLine) (lines : LineReader S) → line_fault lines ≡ None
-      → good_coming device.left (known_members reached items lines) ≡ option_map (good_from (sequence_format full) (input_of lines) reached) (lines_left device.left lines)
+      → good_coming device.left (known_members reached items lines) ≡ option_map (good_after (sequence_format full) (input_of lines) reached) (lines_left device.left lines)
   unfolding good_coming
   good_lines reached items lines none = ap (λ fault. option_map (good_behind (sequence_format full) (input_of lines) fault reached) (lines_left device.left lines)) none
 
@@ -144,8 +144,8 @@ module _ {S : Type 0} (device : Source S) (full : Bool) where
           said = g.said;
           state = g.state;
           come = subst (ComeFirst (good_coming device.left old) past) (sym (good_lines reached [] new makes.goes))
-              (come_same (good_coming device.left old) (good_from (sequence_format full) (input_of lines) reached) (good_from (sequence_format full) (input_of new) reached) (lines_left device.left lines) (lines_left device.left new) past
-              (λ l. ap (λ input. good_from (sequence_format full) input reached l) (sym makes.bytes.1.same_input)) (made_left device lines new makes)
+              (come_same (good_coming device.left old) (good_after (sequence_format full) (input_of lines) reached) (good_after (sequence_format full) (input_of new) reached) (lines_left device.left lines) (lines_left device.left new) past
+              (λ l. ap (λ input. good_after (sequence_format full) input reached l) (sym makes.bytes.1.same_input)) (made_left device lines new makes)
               (subst (ComeFirst (good_coming device.left old) past) (good_lines reached [] lines g.clear) g.come));
           behind = up_to (lines_given lines) (lines_given new) past (omega (arith, makes.counted)) g.behind;
           lines = lines_now;
@@ -229,23 +229,23 @@ module _ {S : Type 0} (device : Source S) (full : Bool) where
     given_is : lines_given new ≡ suc count
     given_is = omega (arith, takes.given, are.given, length-append before (line ∷ []), say_count full reached before items say)
 
-    good_stops : (rest : List TextLine) → good_from (sequence_format full) (input_of lines) (state_behind (sequence_format full) reached items) (line ∷ rest) ≡ record { members = []; fault = Some fault }
-    unfolding good_from
+    good_stops : (rest : List TextLine) → good_after (sequence_format full) (input_of lines) (state_behind (sequence_format full) reached items) (line ∷ rest) ≡ record { members = []; fault = Some fault }
+    unfolding good_after
     good_stops rest = grind arith
 
     good_known : (all : List TextLine) → take (length (buffered_in lines)) all ≡ buffered_in lines → AreNumbered (suc (lines_given lines)) all
-        → good_from (sequence_format full) (input_of lines) reached all ≡ with_members members (record { members = []; fault = Some fault })
+        → good_after (sequence_format full) (input_of lines) reached all ≡ with_members members (record { members = []; fault = Some fault })
     good_known all e n =
         let front = front_of (before ++ line ∷ []) more all (subst (λ l. take (length l) all ≡ l) parts e) in
         let whole : all ≡ before ++ line ∷ front.0 = front.1 ∙ append_assoc before (line ∷ []) front.0 in
         let size : length items ≡ length before = sym (say_count full reached before items say) in
         let left_is : drop (length items) all ≡ line ∷ front.0 = ap (λ k. drop k all) size ∙ ap (drop (length before)) whole ∙ drop-append_seam before (line ∷ front.0) in
         sym (good_said (sequence_format full) (input_of lines) (suc (lines_given lines)) reached all items n (subst (λ l. LinesSay (sequence_format full) reached l items) (sym whole) (say_lines full reached before (line ∷ front.0) items say)))
-        ∙ ap (λ l. with_members members (good_from (sequence_format full) (input_of lines) (state_behind (sequence_format full) reached items) l)) left_is
+        ∙ ap (λ l. with_members members (good_after (sequence_format full) (input_of lines) (state_behind (sequence_format full) reached items) l)) left_is
         ∙ ap (with_members members) (good_stops front.0)
 
     whole_by : (good : Option (Good SequenceLine)) (all : Option (List TextLine)) → IfSome all (λ all. take (length (buffered_in lines)) all ≡ buffered_in lines) → IfSome all (AreNumbered (suc (lines_given lines)))
-        → ComeFirst good past (option_map (good_from (sequence_format full) (input_of lines) reached) all) → IfSome good (λ good. (good.members ≡ past ++ members) × (good.fault ≡ Some fault))
+        → ComeFirst good past (option_map (good_after (sequence_format full) (input_of lines) reached) all) → IfSome good (λ good. (good.members ≡ past ++ members) × (good.fault ≡ Some fault))
     whole_by good all e n c = grind (arith, good_known, append-nil)
 
     whole : IfSome (good_coming device.left old) (λ good. (good.members ≡ past ++ members) × (good.fault ≡ Some fault))

@@ -3,7 +3,7 @@ use Rattle.bt_lines.proofs.Std.{◌≡◌, None, IfSome_then, ℕ, suc, ◌+◌,
 use Rattle.bt_lines.specs.declared.device.Source.{Ghosts as Source}
 use Rattle.bt_lines.specs.model.Fault.{FaultValue, read_failed}
 use Rattle.bt_lines.specs.calls.Reader.{IsKept, fault_kept as line_fault, Hands, bytes_left, end_told, has_ended, held, left_at, source_of, input_of, lines_given, lines_left, GivesLine}
-use Rattle.bt_bed.specs.model.Good.{Member, Format, Good, ends_with, good_from}
+use Rattle.bt_bed.specs.model.Good.{Member, Format, Good, ends_with, good_after}
 use Rattle.bt_bed.specs.calls.Reading.{AnswersFault, EndsMembers, GivesMember, MemberReader, IsBeyond, AreSaid, Cause, ahead_in, first_from, good_coming, members_from, state_behind, LinesPass}
 use Rattle.bt_lines.specs.model.Lines.{TextLine, bytes_in, lines_from}
 use Rattle.bt_lines.specs.calls.Output.{block_size}
@@ -352,14 +352,14 @@ pub came : {S : Type 0} (device : Source S) (old new : LineReader S) (line : Tex
 came device old new line gives = grind (arith, (given_left device old new line gives))
 
 module _ {A State : Type 0} (format : Format A State) (input : Input) (state : State) where
-  none_comes : (old : Option (Good A)) (a b : Option (List TextLine)) (line : TextLine) (past : List (Member A)) → ComeFirst old past (option_map (good_from format input state) a) → GivesFirst a line b
-      → format.says state line ≡ Ok None → ComeFirst old past (option_map (good_from format input state) b)
-  unfolding good_from
+  none_comes : (old : Option (Good A)) (a b : Option (List TextLine)) (line : TextLine) (past : List (Member A)) → ComeFirst old past (option_map (good_after format input state) a) → GivesFirst a line b
+      → format.says state line ≡ Ok None → ComeFirst old past (option_map (good_after format input state) b)
+  unfolding good_after
   none_comes old a b line past c g e = grind arith
 
-  come_some : (old : Option (Good A)) (a b : Option (List TextLine)) (line : TextLine) (item : A) (past : List (Member A)) → ComeFirst old past (option_map (good_from format input state) a) → GivesFirst a line b
-      → format.says state line ≡ Ok (Some item) → ComeFirst old (past ++ record { line = line.number; item = item } ∷ []) (option_map (good_from format input (format.after state item)) b)
-  unfolding good_from
+  come_some : (old : Option (Good A)) (a b : Option (List TextLine)) (line : TextLine) (item : A) (past : List (Member A)) → ComeFirst old past (option_map (good_after format input state) a) → GivesFirst a line b
+      → format.says state line ≡ Ok (Some item) → ComeFirst old (past ++ record { line = line.number; item = item } ∷ []) (option_map (good_after format input (format.after state item)) b)
+  unfolding good_after
   come_some old a b line item past c g e = grind (arith, append_assoc)
 
 module _ {S A State : Type 0} {device : Source S} {old now : MemberReader S A State} {past : List (Member A)} (g : PassesMembers device old past now) (new : MemberReader S A State) {line : TextLine}
@@ -380,10 +380,10 @@ module _ {S A State : Type 0} {device : Source S} {old now : MemberReader S A St
       near_given (lines_left device.left old.below) (lines_left device.left new.below) (device.left (source_of new.below)) (lines_given new.below) lines
       (sound_near device new.below (record { end = was.end; within = was.within; near = λ fine. gives.ahead }) gives.goes)
 
-  coming_before : good_coming device.left now ≡ option_map (good_from now.format (input_of now.below) now.state) (lines_left device.left now.below)
+  coming_before : good_coming device.left now ≡ option_map (good_after now.format (input_of now.below) now.state) (lines_left device.left now.below)
   coming_before = coming_is device.left now g.going
 
-  coming_after : good_coming device.left new ≡ option_map (good_from now.format (input_of now.below) new.state) (lines_left device.left new.below)
+  coming_after : good_coming device.left new ≡ option_map (good_after now.format (input_of now.below) new.state) (lines_left device.left new.below)
   coming_after = grind (arith, coming_is)
 
   passes_with : (given : List (Member A)) → AreSaid old.format old.state (member_items given) → new.state ≡ state_behind old.format old.state (member_items given)

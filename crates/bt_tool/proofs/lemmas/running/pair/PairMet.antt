@@ -37,7 +37,7 @@ module _ {X Y : Type 0} (join : JoinDef X Y) where
 
   -- the same, by what the first meets of the second
   abbrev pub met_by : Good X → Good Y → Report
-  met_by first second = met_whole first (join.limited (items_in first) second)
+  met_by first second = met_whole first (join.within_limit (items_in first) second)
 
 -- Lemmas from how a run over two readers of members ends to the report on how the inputs meet.
 
@@ -46,17 +46,17 @@ pub record AreLimits {X Y : Type 0} (join : JoinDef X Y) : Type 0 where
   pub more : (given later : List X) (past : List (Member Y)) → join.Fits given past → join.Fits (given ++ later) past
   -- if all of the second fits, it isn't cut
   pub whole : (first : List X) (past : List (Member Y)) (fault : Option FaultValue) → join.Fits first past
-      → join.limited first (record { members = past; fault = fault }) ≡ record { members = past; fault = fault }
+      → join.within_limit first (record { members = past; fault = fault }) ≡ record { members = past; fault = fault }
   -- what fits stays, and so does the one member after it
   pub keeps : (first : List X) (past : List (Member Y)) (ahead : Option (Member Y)) (rest : List (Member Y)) (fault : Option FaultValue) → join.Fits first past
-      → (more : List (Member Y)) × ((join.limited first (record { members = (past ++ option_to_list ahead) ++ rest; fault = fault })).members ≡ (past ++ option_to_list ahead) ++ more)
+      → (more : List (Member Y)) × ((join.within_limit first (record { members = (past ++ option_to_list ahead) ++ rest; fault = fault })).members ≡ (past ++ option_to_list ahead) ++ more)
   -- if all of the first is decided, the second isn't cut
   pub done : (first : List X) (past : List (Member Y)) (ahead : Option (Member Y)) (rest : List (Member Y)) (fault : Option FaultValue) → join.Fits first past
       → join.InOrder (member_items ((past ++ option_to_list ahead) ++ rest))
       → (join.InOrder (member_items (past ++ option_to_list ahead)) → list_all (λ x. join.decided x (member_items (past ++ option_to_list ahead))) first ≡ true)
-      → join.limited first (record { members = (past ++ option_to_list ahead) ++ rest; fault = fault }) ≡ record { members = (past ++ option_to_list ahead) ++ rest; fault = fault }
+      → join.within_limit first (record { members = (past ++ option_to_list ahead) ++ rest; fault = fault }) ≡ record { members = (past ++ option_to_list ahead) ++ rest; fault = fault }
   -- what is left of the second is in order
-  pub ordered : (first : List X) (second : Good Y) → join.InOrder (items_in second) → join.InOrder (items_in (join.limited first second))
+  pub ordered : (first : List X) (second : Good Y) → join.InOrder (items_in second) → join.InOrder (items_in (join.within_limit first second))
 
 -- an input that is there
 module _ {S : Type 0} (device : Source S) where
@@ -132,7 +132,7 @@ module _ {A B X Y U V : Type 0} {join : JoinDef X Y} {pair : Pair A B X Y U V} {
 
   -- what the first meets of the second
   abbrev limit : Handed → Handed → Good Y
-  limit one two = join.limited (items_in (good_one one)) (good_two two)
+  limit one two = join.within_limit (items_in (good_one one)) (good_two two)
 
   abbrev MayBe : Good Y → Type 0
   MayBe good = MayCome (member_items w.wrote.seen) w.wrote.ended (items_in good) good.fault
@@ -166,18 +166,18 @@ module _ {A B X Y U V : Type 0} {join : JoinDef X Y} {pair : Pair A B X Y U V} {
     ended_taken : w.wrote.ended ≡ true → w.wrote.seen ≡ w.wrote.taken
     ended_taken e = w.wrote.sees ∙ ap (λ (o : Option (Member Y)). w.wrote.taken ++ option_to_list o) (w.wrote.none_ahead e) ∙ append-nil w.wrote.taken
 
-    whole_at : w.wrote.ended ≡ true → second_good.members ≡ w.wrote.seen → join.limited firsts second_good ≡ second_good
+    whole_at : w.wrote.ended ≡ true → second_good.members ≡ w.wrote.seen → join.within_limit firsts second_good ≡ second_good
     whole_at e all = grind (arith, ended_taken)
 
     -- what the first meets of the second begins with what was seen
-    limited_may : SeesTwo second_good → MayBe (join.limited firsts second_good)
+    limited_may : SeesTwo second_good → MayBe (join.within_limit firsts second_good)
     limited_may sees =
         let is = parted sees.0.0 sees.0.1 in
         let keeps = limits.keeps firsts w.wrote.taken w.wrote.ahead sees.0.0 second_good.fault fits_first in
         record {
           begins = (
             member_items keeps.0,
-            ap (λ (g : Good Y). items_in (join.limited firsts g)) is ∙ ap member_items keeps.1 ∙ ap (λ l. member_items (l ++ keeps.0)) (sym w.wrote.sees) ∙ map-append (λ m. m.item) w.wrote.seen keeps.0,
+            ap (λ (g : Good Y). items_in (join.within_limit firsts g)) is ∙ ap member_items keeps.1 ∙ ap (λ l. member_items (l ++ keeps.0)) (sym w.wrote.sees) ∙ map-append (λ m. m.item) w.wrote.seen keeps.0,
           );
           all = λ e.
               let same = whole_at e (sees.1 e).0 in
@@ -194,7 +194,7 @@ module _ {A B X Y U V : Type 0} {join : JoinDef X Y} {pair : Pair A B X Y U V} {
 
     -- if all of the first is written, the limit changes nothing
     free : firsts ≡ w.written → join.InOrder (items_in second_good) → (rest : List (Member Y)) → second_good.members ≡ w.wrote.seen ++ rest
-        → (w.wrote.ended ≡ true → second_good.members ≡ w.wrote.seen) → join.limited firsts second_good ≡ second_good
+        → (w.wrote.ended ≡ true → second_good.members ≡ w.wrote.seen) → join.within_limit firsts second_good ≡ second_good
     free all ordered rest begins ends = grind (arith, whole_at, decided_all)
 
   first_whole : (other : Option FaultValue) (one : Handed) → CameOne other one → Serves pair.source_a.has_failed pair.first first → (P : Good X → Type 0) → IfSome (good_coming pair.source_a.left pair.first) P → P (good_one one)
@@ -264,7 +264,7 @@ module _ {A B X Y U V : Type 0} {join : JoinDef X Y} {pair : Pair A B X Y U V} {
         let all = items_in (good_one one) in
         let fits : join.Fits all stops.past = rw (← append_assoc w.written (stops.waiting ∷ []) waits.0 ∙ sym waits.1) (limits.more (w.written ++ stops.waiting ∷ []) waits.0 stops.past (stops.fits known_now)) in
         let cut = good_is (good_two two) stops.past (Some other) says.0 says.1 in
-        let same : limit one two ≡ good_two two = ap (join.limited all) cut ∙ limits.whole all stops.past (Some other) fits ∙ sym cut in
+        let same : limit one two ≡ good_two two = ap (join.within_limit all) cut ∙ limits.whole all stops.past (Some other) fits ∙ sym cut in
         let undecided_by : join.decided stops.waiting (items_in (limit one two)) ≡ false =
         ap (λ (g : Good Y). join.decided stops.waiting (items_in g)) same
         ∙ ap (λ ms. join.decided stops.waiting (member_items ms)) says.0
@@ -280,8 +280,8 @@ module _ {A B X Y U V : Type 0} {join : JoinDef X Y} {pair : Pair A B X Y U V} {
         let comes = second_whole fault two came_second stops.serves_second (λ good. (rest : List (Member Y)) × (good.members ≡ (stops.past ++ stops.m ∷ []) ++ rest)) stops.comes in
         let may = limited_may (good_one one) (good_two two) known_now begun (second_whole fault two came_second stops.serves_second SeesTwo second_sees) in
         let cut : limit one two ≡ record { members = stops.past ++ stops.m ∷ []; fault = Some other } =
-        ap (λ (l : List X). join.limited l (good_two two)) waits.1
-        ∙ ap (join.limited (w.written ++ stops.waiting ∷ waits.0)) (good_is (good_two two) ((stops.past ++ stops.m ∷ []) ++ comes.0) (good_two two).fault comes.1 refl)
+        ap (λ (l : List X). join.within_limit l (good_two two)) waits.1
+        ∙ ap (join.within_limit (w.written ++ stops.waiting ∷ waits.0)) (good_is (good_two two) ((stops.past ++ stops.m ∷ []) ++ comes.0) (good_two two).fault comes.1 refl)
         ∙ stops.cuts known_now waits.0 comes.0 (good_two two).fault in
         let met = meets_stop join (good_one one) (limit one two) w.written w.bytes (here_by one two known_now may) stops.waiting waits.0 other waits.1 (ap (λ (g : Good Y). g.fault) cut)
         (ap (λ (g : Good Y). join.decided stops.waiting (items_in g)) cut ∙ stops.undecided) in

@@ -11,7 +11,7 @@ use Rattle.bt_lines.specs.declared.fault.Kind.{Kind}
 use Rattle.bt_lines.specs.declared.fault.Place.{Place}
 use Rattle.bt_lines.proofs.lemmas.reader.lines.TextLemmas.{bytes_in-append, lines_are_numbered}
 use Rattle.bt_bed.specs.model.Feature.{Feature}
-use Rattle.bt_bed.specs.model.Good.{Format, Good, Member, good, good_from, good_handed, good_with, items_in}
+use Rattle.bt_bed.specs.model.Good.{Format, Good, Member, good, good_after, good_handed, good_with, items_in}
 use Rattle.bt_bed.specs.calls.Reading.{BeginsComing, IsBeyond, IsFaultBeyond, MemberReader, ahead_in, first_from as first_of_members, good_coming}
 use Rattle.bt_bed.proofs.lemmas.read.good.SaidLemmas.{ascend_from, first_from}
 use Rattle.bt_tool.specs.model.Written.{bytes_up_to, last_line_needed}
@@ -43,14 +43,14 @@ module _ {A State : Type 0} (format : Format A State) (input : Input) where
 
   -- members on the first lines are among those that are good of these lines
   pub front_from : (more : ℕ) {bound : ℕ} (number : ℕ) (state : State) (lines : List TextLine) (past rest : List (Member A)) → suc bound ≡ number + more → AreNumbered number lines
-      → (good_from format input state lines).members ≡ past ++ rest → All (λ m. m.line ≤ bound) past
-      → (extra : List (Member A)) × ((good_from format input state (take more lines)).members ≡ past ++ extra)
-  unfolding good_from
+      → (good_after format input state lines).members ≡ past ++ rest → All (λ m. m.line ≤ bound) past
+      → (extra : List (Member A)) × ((good_after format input state (take more lines)).members ≡ past ++ extra)
+  unfolding good_after
   front_from zero number state lines [] rest size n e up = ([], refl)
   front_from zero {bound} number state lines (m ∷ ms) rest size n e up = grind (arith, (ascend_from format input number state lines n), (All-head (λ (m : Member A). m.line ≤ bound) m ms up))
   front_from (suc more) number state [] past rest size n e up = (rest, e)
   front_from (suc more) {bound} number state (line ∷ lines) past rest size n e up =
-      front_with bound line.number state (format.says state line) (λ now. good_from format input now lines) (λ now. good_from format input now (take more lines)) past rest
+      front_with bound line.number state (format.says state line) (λ now. good_after format input now lines) (λ now. good_after format input now (take more lines)) past rest
       (λ now past rest e up. front_from more (suc number) now lines past rest (omega arith) n.1 e up) e up
 
 -- the bytes of fewer lines

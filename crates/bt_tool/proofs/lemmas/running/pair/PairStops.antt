@@ -336,7 +336,7 @@ module _ {A B X Y U V : Type 0} {join : JoinDef X Y} {pair : Pair A B X Y U V} {
       pub passes_limit : (m : Member Y) → ahead_in second ≡ Some m
           → (kind : Kind) → join.second_kinds kind → (fault : FaultValue) → fault ≡ fault_at_line Second m.line kind → join.decided a (member_items (past_second ++ m ∷ [])) ≡ false
           → (IsKnown pair → (later : List X) (more : List (Member Y)) (other : Option FaultValue)
-          → join.limited (stage.written ++ a ∷ later) (record { members = (past_second ++ m ∷ []) ++ more; fault = other }) ≡ record { members = past_second ++ m ∷ []; fault = Some fault })
+          → join.within_limit (stage.written ++ a ∷ later) (record { members = (past_second ++ m ∷ []) ++ more; fault = other }) ≡ record { members = past_second ++ m ∷ []; fault = Some fault })
           → Ends (Some fault) first second grown
       passes_limit m ahead kind of_kind fault is undecided cuts =
           ends_here (Some fault) (inl (

@@ -12,7 +12,7 @@ use Rattle.bt_lines.specs.declared.fault.Kind.{Kind}
 use Rattle.bt_lines.specs.declared.reader.line_reader.LineReader.{LineReader}
 use Rattle.bt_lines.proofs.lemmas.reader.lines.TakingLemmas.{sound_near}
 use Rattle.bt_lines.proofs.lemmas.reader.lines.TextLemmas.{lines_are_numbered}
-use Rattle.bt_bed.specs.model.Good.{Format, Good, Member, ends_with, good_from, good_with}
+use Rattle.bt_bed.specs.model.Good.{Format, Good, Member, ends_with, good_after, good_with}
 use Rattle.bt_bed.specs.calls.Reading.{AreAscending, IsBeyond, IsFaultBeyond, AnswersFault, LastUnkept, LineIsWrong, LinesPass, MemberReader, SaidNothing, good_behind, good_coming}
 use Rattle.bt_bed.specs.model.BedLine.{fault_at_line}
 use Rattle.bt_bed.proofs.lemmas.read.good.SaidLemmas.{ascend_from, beyond_from}
@@ -36,11 +36,11 @@ module _ {A State : Type 0} (format : Format A State) (input : Input) where
   fault_with count line state said rest h f = grind arith
 
   fault_from : (count number : ℕ) (state : State) (lines : List TextLine) → AreNumbered number lines → count < number
-      → FaultBeyond count (good_from format input state lines).fault
-  unfolding good_from
+      → FaultBeyond count (good_after format input state lines).fault
+  unfolding good_after
   fault_from count number state [] n h = tt
   fault_from count number state (line ∷ lines) n h =
-      fault_with count line.number state (format.says state line) (λ now. good_from format input now lines) (omega (arith, n.0))
+      fault_with count line.number state (format.says state line) (λ now. good_after format input now lines) (omega (arith, n.0))
       (λ now. fault_from count (suc number) now lines n.1 (omega arith))
 
   -- the fault lies after every member
@@ -51,11 +51,11 @@ module _ {A State : Type 0} (format : Format A State) (input : Input) where
   last_with line state said rest h f = grind arith
 
   fault_comes_last : (number : ℕ) (state : State) (lines : List TextLine) → AreNumbered number lines
-      → All (λ m. FaultBeyond m.line (good_from format input state lines).fault) (good_from format input state lines).members
-  unfolding good_from
+      → All (λ m. FaultBeyond m.line (good_after format input state lines).fault) (good_after format input state lines).members
+  unfolding good_after
   fault_comes_last number state [] n = All-nil (λ (m : Member A). FaultBeyond m.line None)
   fault_comes_last number state (line ∷ lines) n =
-      last_with line.number state (format.says state line) (λ now. good_from format input now lines)
+      last_with line.number state (format.says state line) (λ now. good_after format input now lines)
       (λ now. fault_comes_last (suc number) now lines n.1)
       (λ now. fault_from line.number (suc number) now lines n.1 (omega (arith, n.0)))
 
@@ -66,18 +66,18 @@ module _ {A State : Type 0} (format : Format A State) (input : Input) where
 
   -- a first member, what comes after it and the fault lie after the lines before its own
   beyond_first : (state : State) (number : ℕ) (lines : List TextLine) (rest : List (Member A)) (m : Member A) (count : ℕ) → AreNumbered number lines
-      → (good_from format input state lines).members ≡ m ∷ rest → suc count ≡ m.line → IsBeyond count (good_from format input state lines)
+      → (good_after format input state lines).members ≡ m ∷ rest → suc count ≡ m.line → IsBeyond count (good_after format input state lines)
   beyond_first state number lines rest m count n e at = grind (arith, (ascend_from format input number state lines n), (fault_comes_last number state lines n), ascending_beyond)
 
 -- what is good of the lines that are left, for a reader without a fault
 pub coming_is : {S A State : Type 0} (left : S → Option (List ℕ)) (reader : MemberReader S A State) → reader.fault ≡ None
-    → good_coming left reader ≡ option_map (good_from reader.format (input_of reader.below) reader.state) (lines_left left reader.below)
+    → good_coming left reader ≡ option_map (good_after reader.format (input_of reader.below) reader.state) (lines_left left reader.below)
 unfolding good_coming
 coming_is left reader going = ap (λ f. option_map (good_behind reader.format (input_of reader.below) f reader.state) (lines_left left reader.below)) going
 
 -- what is still to come lies after the lines given
 beyond_known : {A State : Type 0} (format : Format A State) (input : Input) (state : State) (given : ℕ) (bytes : Option (List ℕ)) (good : Option (Good A))
-    → good ≡ option_map (good_from format input state) (option_map (lines_from (suc given)) bytes) → IfSome good (IsBeyond given)
+    → good ≡ option_map (good_after format input state) (option_map (lines_from (suc given)) bytes) → IfSome good (IsBeyond given)
 beyond_known format input state given bytes good e = grind (arith, beyond_from, lines_are_numbered)
 
 pub beyond_now : {S A State : Type 0} (left : S → Option (List ℕ)) (reader : MemberReader S A State) → reader.fault ≡ None
@@ -93,13 +93,13 @@ first_item : {A : Type 0} (line : ℕ) (good : Option (Good A))
 first_item line good f = IfSome_then good f (λ good f. (record { line = line; item = f.0 }, f.1, f.2, refl))
 
 first_beyond : {A State : Type 0} (format : Format A State) (input : Input) (state : State) (number : ℕ) (bytes : Option (List ℕ)) (good : Option (Good A)) (count line : ℕ)
-    → good ≡ option_map (good_from format input state) (option_map (lines_from number) bytes)
+    → good ≡ option_map (good_after format input state) (option_map (lines_from number) bytes)
     → IfSome good (FirstOn line) → suc count ≡ line → IfSome good (IsBeyond count)
 first_beyond format input state number None None count line e f at = tt
 first_beyond format input state number None (Some good) count line e f at = cc
 first_beyond format input state number (Some bytes) None count line e f at = tt
 first_beyond format input state number (Some bytes) (Some good) count line e f at =
-    let is : good ≡ good_from format input state (lines_from number bytes) = cc in
+    let is : good ≡ good_after format input state (lines_from number bytes) = cc in
     subst (IsBeyond count) (sym is)
     (beyond_first format input state number (lines_from number bytes) f.1 f.0 count (lines_are_numbered number bytes) (sym (ap (λ g. g.members) is) ∙ f.2) (at ∙ sym f.3))
 

@@ -6,7 +6,7 @@ use Rattle.bt_bed.specs.model.BedLine.{fault_at_line}
 use Rattle.bt_bed.specs.model.Good.{Member, Good, items_in}
 use Rattle.bt_bed.specs.model.Order.{Order}
 use Rattle.bt_bed.specs.calls.Orders.{IsTotal, ArePlaced}
-use Rattle.bt_sweep.specs.model.Hits.{decides, decided, are_too_many, cut_behind, is_held, limited}
+use Rattle.bt_sweep.specs.model.Hits.{decides, decided, are_too_many, up_to_too_many, is_held, within_limit}
 use Rattle.bt_sweep.specs.calls.Sweeping.{leaves_some, Settles, AreDecided, TakenEach, has_room}
 use Rattle.bt_sweep.specs.declared.hits.hit_rule.HitRule.{HitRule}
 use Rattle.bt_sweep.specs.declared.output.shape.Shape.{Shape}
@@ -89,7 +89,7 @@ module _ (order : Order) where
       → AreWithin order limit (before ++ a ∷ []) past → list_all (λ x. decided order x (member_items (past ++ m ∷ []))) before ≡ true → decided order a (member_items (past ++ m ∷ [])) ≡ false
       → is_held a m.item ≡ true → has_room limit (length (filter (is_held a) (member_items past))) ≡ false
       → (later : List Feature) (more : List (Member Feature)) (other : Option FaultValue)
-      → limited order limit (before ++ a ∷ later) (record { members = (past ++ m ∷ []) ++ more; fault = other }) ≡ record { members = past ++ m ∷ []; fault = Some fault }
+      → within_limit order limit (before ++ a ∷ later) (record { members = (past ++ m ∷ []) ++ more; fault = other }) ≡ record { members = past ++ m ∷ []; fault = Some fault }
   cuts_at None before a past m is within all undecided held full later more other = absurd (false≢true (sym full))
   cuts_at (Some most) before a past m is within all undecided held full later more other =
       let count = length (filter (is_held a) (member_items (past ++ m ∷ []))) in
@@ -102,7 +102,7 @@ module _ (order : Order) where
     abbrev too_many : List Feature → Bool
     too_many = are_too_many order most first
 
-    cut_at : (past more : List (Member Feature)) (fault : Option FaultValue) → AreWithin order (Some most) first past → cut_behind too_many [] (past ++ more) fault ≡ cut_behind too_many past more fault
+    cut_at : (past more : List (Member Feature)) (fault : Option FaultValue) → AreWithin order (Some most) first past → up_to_too_many too_many [] (past ++ more) fault ≡ up_to_too_many too_many past more fault
     cut_at past more fault within = grind (arith, (append-nil first))
 
     still : (x : Feature) (past extra : List (Member Feature)) → decided order x (member_items past) ≡ true → decided order x (member_items (past ++ extra)) ≡ true
@@ -116,31 +116,31 @@ module _ (order : Order) where
 
     cut_seen : (past : List (Member Feature)) (ahead : Option (Member Feature)) (rest : List (Member Feature)) (fault : Option FaultValue) → AreWithin order (Some most) first past
         → list_all (λ x. decided order x (member_items (past ++ option_to_list ahead))) first ≡ true
-        → cut_behind too_many [] ((past ++ option_to_list ahead) ++ rest) fault ≡ cut_behind too_many (past ++ option_to_list ahead) rest fault
+        → up_to_too_many too_many [] ((past ++ option_to_list ahead) ++ rest) fault ≡ up_to_too_many too_many (past ++ option_to_list ahead) rest fault
     cut_seen past None rest fault within all = grind (arith, append-nil, cut_at)
     cut_seen past (Some m) rest fault within all = grind (arith, append_assoc, cut_at, cut_on, few_decided)
 
     -- if all of the first is decided, the second isn't cut
     cut_done : (past : List (Member Feature)) (ahead : Option (Member Feature)) (rest : List (Member Feature)) (fault : Option FaultValue) → AreWithin order (Some most) first past
         → list_all (λ x. decided order x (member_items (past ++ option_to_list ahead))) first ≡ true
-        → cut_behind too_many [] ((past ++ option_to_list ahead) ++ rest) fault ≡ record { members = (past ++ option_to_list ahead) ++ rest; fault = fault }
+        → up_to_too_many too_many [] ((past ++ option_to_list ahead) ++ rest) fault ≡ record { members = (past ++ option_to_list ahead) ++ rest; fault = fault }
     cut_done past ahead rest fault within all =
         cut_seen past ahead rest fault within all
         ∙ cut_none too_many (past ++ option_to_list ahead) rest fault
         (λ front n more e. few_decided order most (member_items ((past ++ option_to_list ahead) ++ (front ++ n ∷ []))) first (all_still first (past ++ option_to_list ahead) (front ++ n ∷ []) all))
 
     keeps_at : (past : List (Member Feature)) (ahead : Option (Member Feature)) (rest : List (Member Feature)) (fault : Option FaultValue) → AreWithin order (Some most) first past
-        → (more : List (Member Feature)) × ((cut_behind too_many [] ((past ++ option_to_list ahead) ++ rest) fault).members ≡ (past ++ option_to_list ahead) ++ more)
+        → (more : List (Member Feature)) × ((up_to_too_many too_many [] ((past ++ option_to_list ahead) ++ rest) fault).members ≡ (past ++ option_to_list ahead) ++ more)
     keeps_at past None rest fault within = grind (arith, (cut_keeps too_many past rest fault), (append-nil past), (cut_at past rest fault within))
     keeps_at past (Some m) rest fault within = grind (arith, (cut_next too_many past rest m fault), (append_assoc past (m ∷ []) rest), (cut_at past (m ∷ rest) fault within))
 
   whole_limited : (limit : Option ℕ) (first : List Feature) (past : List (Member Feature)) (fault : Option FaultValue) → AreWithin order limit first past
-      → limited order limit first (record { members = past; fault = fault }) ≡ record { members = past; fault = fault }
+      → within_limit order limit first (record { members = past; fault = fault }) ≡ record { members = past; fault = fault }
   whole_limited None first past fault within = refl
-  whole_limited (Some most) first past fault within = ap (λ l. cut_behind (are_too_many order most first) [] l fault) (sym (append-nil past)) ∙ cut_at most first past [] fault within
+  whole_limited (Some most) first past fault within = ap (λ l. up_to_too_many (are_too_many order most first) [] l fault) (sym (append-nil past)) ∙ cut_at most first past [] fault within
 
   keeps_limited : (limit : Option ℕ) (first : List Feature) (past : List (Member Feature)) (ahead : Option (Member Feature)) (rest : List (Member Feature)) (fault : Option FaultValue) → AreWithin order limit first past
-      → (more : List (Member Feature)) × ((limited order limit first (record { members = (past ++ option_to_list ahead) ++ rest; fault = fault })).members ≡ (past ++ option_to_list ahead) ++ more)
+      → (more : List (Member Feature)) × ((within_limit order limit first (record { members = (past ++ option_to_list ahead) ++ rest; fault = fault })).members ≡ (past ++ option_to_list ahead) ++ more)
   keeps_limited None first past ahead rest fault within = (rest, refl)
   keeps_limited (Some most) first past ahead rest fault within = keeps_at most first past ahead rest fault within
 
@@ -150,11 +150,11 @@ module _ (order : Order) where
   done_limited : (limit : Option ℕ) (first : List Feature) (past : List (Member Feature)) (ahead : Option (Member Feature)) (rest : List (Member Feature)) (fault : Option FaultValue) → AreWithin order limit first past
       → ArePlaced order (intervals_of (member_items ((past ++ option_to_list ahead) ++ rest)))
       → (ArePlaced order (intervals_of (member_items (past ++ option_to_list ahead))) → list_all (λ x. decided order x (member_items (past ++ option_to_list ahead))) first ≡ true)
-      → limited order limit first (record { members = (past ++ option_to_list ahead) ++ rest; fault = fault }) ≡ record { members = (past ++ option_to_list ahead) ++ rest; fault = fault }
+      → within_limit order limit first (record { members = (past ++ option_to_list ahead) ++ rest; fault = fault }) ≡ record { members = (past ++ option_to_list ahead) ++ rest; fault = fault }
   done_limited None first past ahead rest fault within placed all = refl
   done_limited (Some most) first past ahead rest fault within placed all = cut_done most first past ahead rest fault within (all (members_placed (past ++ option_to_list ahead) rest placed))
 
-  ordered_limited : (limit : Option ℕ) (first : List Feature) (second : Good Feature) → ArePlaced order (intervals_of (items_in second)) → ArePlaced order (intervals_of (items_in (limited order limit first second)))
+  ordered_limited : (limit : Option ℕ) (first : List Feature) (second : Good Feature) → ArePlaced order (intervals_of (items_in second)) → ArePlaced order (intervals_of (items_in (within_limit order limit first second)))
   ordered_limited None first second placed = placed
   ordered_limited (Some most) first second placed = grind (arith, (cut_front (are_too_many order most first) [] second.members second.fault), members_placed)
 

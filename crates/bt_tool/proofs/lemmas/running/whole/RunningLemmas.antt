@@ -16,7 +16,7 @@ use Rattle.bt_lines.specs.declared.fault.Input.TheVariants.{First, Second, Genom
 use Rattle.bt_lines.specs.declared.fault.Place.{Place}
 use Rattle.bt_bed.specs.model.Genome.{Entry}
 use Rattle.bt_bed.specs.calls.GenomeTable.{entries, is_genome_kind}
-use Rattle.bt_bed.specs.model.Good.{good_from}
+use Rattle.bt_bed.specs.model.Good.{good_after}
 use Rattle.bt_bed.specs.declared.order.genome.Genome.{Genome}
 use Rattle.bt_runs.specs.model.Depth.{settled_depths}
 use Rattle.bt_runs.specs.model.Gaps.{settled_gaps}
@@ -104,12 +104,12 @@ module _ (out mid new : Output) (fault answer : Option FaultValue) where
 
 -- no line settles nothing
 none_settle : (command : Command) (chromosomes : Option (List Entry)) (second : Option Handed) → (behaviour_of command chromosomes).settles second [] ≡ []
-unfolding good_from settled_gaps settled_depths
+unfolding good_after settled_gaps settled_depths
 none_settle command chromosomes second = grind (arith, no_strand_settled)
 
 -- and none is at fault
 none_at_fault : (command : Command) (chromosomes : Result (Option (List Entry)) FaultValue) → (behaviour_on command chromosomes).faults [] ≡ None
-unfolding good_from
+unfolding good_after
 none_at_fault command chromosomes = grind arith
 
 -- chromosomes that were read aren't at fault

@@ -1,0 +1,26 @@
+use Rattle.std.proofs.Common.{◌≡◌, ℕ, List, [], ◌++◌, append_assoc, sym, take, arith}
+use Rattle.std.proofs.lemmas.List.{append-nil}
+use Rattle.std.proofs.KnownBytes.{Appends-kept, Appends-trans}
+use Rattle.bt_lines.specs.calls.Device.{ReadsOn, begun, gave}
+use Rattle.bt_front.proofs.stream.pouring.pour.Goals as goal
+
+pub loop-init : goal.loop-init
+loop-init g c = ([], begun, rw (append-nil c.args.kept.now) (c.in_ok-put.ensures.put), c.in_ok-put.ensures.taken)
+
+pub loop-preserved : goal.loop-preserved
+loop-preserved g c =
+    let before = c.loop.invariant in (
+      before.0 ++ take c.in-Ok.count c.read.new.block,
+      gave before.1 _ _ c.in-Ok.ensures.handed,
+      rw (sym (append_assoc c.args.kept.now before.0 (take c.in-Ok.count c.read.new.block)))
+          (Appends-trans _ _ _ _ _ before.2 c.in_ok-put-in-Ok.ensures.put),
+      c.in_ok-put-in-Ok.ensures.taken,
+    )
+
+pub returns-in-Ok-eq0-clause-all : goal.returns-in-Ok-eq0-clause-all
+returns-in-Ok-eq0-clause-all g c = record {
+  bytes = c.loop.invariant.0 ++ take c.in-Ok-eq0.field-0 c.read.new.block;
+  served = gave c.loop.invariant.1 _ _ c.in-Ok-eq0.ensures.handed;
+  ended = grind (arith, c.in-Ok-eq0.ensures.end);
+  taken = rw c.in-Ok-eq0.field-0-test (rw (append-nil c.loop.invariant.0) (Appends-kept _ _ _ _ c.loop.invariant.2 c.loop.invariant.3));
+}
