@@ -1,6 +1,6 @@
 -- FASTA inputs, which records mask which sequence, and the masked lines.
-use Rattle.std.specs.Prelude.{◌++◌, ℕ, Bool, true, false, List, [], ◌∷◌, Option, Some, None, bytes_eq, flat_map, nat_le, option_and_then, if◌then◌else◌, ◌+◌, ◌==◌, ◌||◌, not, drop, length, Result, Ok, Err, suc, ◌&&◌, find, is_none, nat_lt}
-use Rattle.std.specs.List.{last_or, list_any, take_while}
+use Rattle.std.specs.Prelude.{◌++◌, ℕ, Bool, true, false, List, [], ◌∷◌, Option, Some, None, bytes_eq, flat_map, nat_le, option_and_then, if◌then◌else◌, ◌+◌, ◌==◌, ◌||◌, drop, length, Result, Ok, Err, suc, ◌&&◌, find, is_none}
+use Rattle.std.specs.List.{last_or, list_any}
 use Rattle.std.specs.Option.{option_map_or}
 use Rattle.bt_bed.specs.model.Feature.{Feature, record_covers}
 use Rattle.bt_bed.specs.model.BedLine.{fault_at_line, first_word}
