@@ -1,3 +1,4 @@
 -- What calls do, as contracts say it.
 pub mod Bytes
 pub mod Chromosomes
+pub mod Survey

@@ -1,3 +1,4 @@
 -- What one has to believe: for which words bedtools takes a command line.
 pub mod Words
 pub mod Odd
+pub mod Survey

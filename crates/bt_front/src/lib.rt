@@ -38,7 +38,10 @@ mod survey;
 mod tests;
 mod words;
 
+pub use survey::Survey;
 pub use survey::chromosomes::{Chromosomes, Extent};
 pub use survey::oddity::{OddLine, Oddity};
+pub use survey::records_seen::RecordsSeen;
+pub use survey::trouble::Trouble;
 pub use words::Asked;
 pub use words::word_reason::WordReason;

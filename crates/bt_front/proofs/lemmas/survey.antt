@@ -1,11 +1,17 @@
+pub mod BatchLemmas
 pub mod ChromosomeLemmas
+pub mod EnterLemmas
+pub mod ExtentLemmas
 pub mod LineLemmas
 pub mod NameLemmas
 pub mod OddLemmas
 pub mod QuietLemmas
 pub mod RunLemmas
+pub mod SeenLemmas
 pub mod SpecialLemmas
 pub mod StandLemmas
 pub mod TestLemmas
+pub mod TogetherLemmas
 pub mod WatchLaws
+pub mod WatchedLemmas
 pub mod WindowLemmas

@@ -280,7 +280,7 @@ impl ByteWatch {
 }
 
 // How many line feeds there are.
-fn feeds_in(bytes: &[u8]) -> u64
+pub(crate) fn feeds_in(bytes: &[u8]) -> u64
     ensures { result ≡ feeds_in bytes.now }
 {
     bytes.iter().filter(|byte| **byte == b'\n').count() as u64
