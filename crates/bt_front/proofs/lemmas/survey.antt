@@ -6,7 +6,9 @@ pub mod LineLemmas
 pub mod NameLemmas
 pub mod OddLemmas
 pub mod QuietLemmas
+pub mod ReadLemmas
 pub mod RunLemmas
+pub mod SeeingLemmas
 pub mod SeenLemmas
 pub mod SpecialLemmas
 pub mod StandLemmas

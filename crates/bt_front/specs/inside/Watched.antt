@@ -1,6 +1,7 @@
 -- What a watched source has shown of the bytes that it handed over.
-use Rattle.std.specs.Prelude.{ℕ, ◌≡◌, ◌⊎◌, ◌-◌, ◌^◌, true, List, ◌++◌, min, Option, Some, None, IsSome}
+use Rattle.std.specs.Prelude.{ℕ, ◌≡◌, ◌⊎◌, ◌-◌, ◌^◌, ◌||◌, true, List, ◌++◌, min, Option, Some, None, IsSome}
 use Rattle.std.specs.List.{list_all}
+use Rattle.bt_lines.specs.declared.device.Source.{Ghosts as Source}
 use Rattle.bt_front.specs.calls.Bytes.{ShowsBytes, feeds_in}
 use Rattle.bt_front.specs.declared.survey.byte_watch.ByteWatch.{ByteWatch}
 use Rattle.bt_front.specs.declared.survey.oddity.OddLine.{OddLine}
@@ -50,3 +51,12 @@ module _ {S : Type 0} where
   abbrev pub IsWatchedRead : (S → Option (List ℕ) → S → Type 0) → Watched S → Option (List ℕ) → Watched S → Type 0
   IsWatchedRead IsRead before None after = FailsWatched IsRead before after
   IsWatchedRead IsRead before (Some bytes) after = ServesWatched IsRead before bytes after
+
+-- the ghost members of a watched source, as one record
+abbrev pub watched_source : {S : Type 0} → Source S → Source (Watched S)
+watched_source device = record {
+  left = λ watched. device.left watched.source;
+  has_failed = λ watched. watched.has_stopped || device.has_failed watched.source;
+  end_told = λ watched. device.end_told watched.source;
+  is_read = IsWatchedRead device.is_read;
+}

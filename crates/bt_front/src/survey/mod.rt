@@ -53,15 +53,15 @@ impl Survey {
         let mut survey = Survey::new(alloc);
         let seen = survey.see_all(alloc, &mut blocks);
         let watched = blocks.into_reader().into_source();
-        let odd = match seen {
-            Ok(()) => watched.finish(),
-            Err(_) => watched.found(),
-        };
-        let source = watched.into_source();
-        match (odd, seen) {
-            (Some(odd), _) => (Err(Trouble::Odd(odd)), source),
-            (None, Err(trouble)) => (Err(trouble), source),
-            (None, Ok(())) => (Ok(survey), source),
+        match seen {
+            Ok(()) => match watched.finish() {
+                None => (Ok(survey), watched.into_source()),
+                Some(odd) => (Err(Trouble::Odd(odd)), watched.into_source()),
+            },
+            Err(trouble) => match watched.found() {
+                None => (Err(trouble), watched.into_source()),
+                Some(odd) => (Err(Trouble::Odd(odd)), watched.into_source()),
+            },
         }
     }
 
@@ -134,13 +134,7 @@ impl Survey {
     }
 
     // Goes on to the chromosome of this name, on which a record starts here, on this line.
-    fn enter(
-        &mut self,
-        alloc: Global,
-        name: &[u8],
-        start: u64,
-        line: u64,
-    ) -> Result<(), Trouble>
+    fn enter(&mut self, alloc: Global, name: &[u8], start: u64, line: u64) -> Result<(), Trouble>
         ensures { Enters self.old name.now start line result self.new }
     {
         if self.chromosomes.is_last(name) {

@@ -4,8 +4,8 @@ use crate::survey::byte_watch::{ByteWatch, feeds_in};
 use crate::survey::oddity::OddLine;
 use bt_lines::{DeviceFailed, Source};
 
-/// Hands over what another source does, up to the block in which the first odd line shows. It fails from the next read
-/// on.
+/// Hands over what another source does, up to the block in which the first odd line shows. After that it reads nothing,
+/// and fails.
 #[derive(Drop)]
 pub(crate) struct Watched<S> {
     source: S,

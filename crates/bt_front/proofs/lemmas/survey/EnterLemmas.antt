@@ -80,6 +80,7 @@ extents_first past r table together entered = go entered.is
     zero_first : (rs : List Interval) (r : Interval)
         → rs ++ record { chrom = r.chrom; start = r.start; stop = max r.stop 0 } ∷ [] ≡ rs ++ record { chrom = r.chrom; start = r.start; stop = max 0 r.stop } ∷ []
     zero_first rs r = ap (λ (n : ℕ). rs ++ record { chrom = r.chrom; start = r.start; stop = n } ∷ []) (omega arith)
+
     go : ((is_last_name (chroms_of (extents_of past)) r.chrom ≡ true) × (table ≡ extents_of past))
         ⊎ ((is_among (chroms_of (extents_of past)) r.chrom ≡ false) × (is_header_name r.chrom ≡ false)
         × (table ≡ extents_of past ++ record { chrom = r.chrom; start = r.start; stop = 0 } ∷ []))
@@ -107,7 +108,7 @@ goes_on past (r ∷ more) name together last on =
     let here : r.chrom ≡ name = All-head (λ (s : Interval). s.chrom ≡ name) r more on in
     let last_r : is_last_name (chroms_of past) r.chrom ≡ true = rw here last in
     let rest = goes_on (past ++ r ∷ []) more name (together_first past r together (inl last_r)) (last_first past r name here)
-        (All-tail (λ (s : Interval). s.chrom ≡ name) r more on) in
+    (All-tail (λ (s : Interval). s.chrom ≡ name) r more on) in
     let joined : (past ++ r ∷ []) ++ more ≡ past ++ r ∷ more = append_assoc past (r ∷ []) more in record {
       together = subst (λ (l : List Interval). are_together (chroms_of l) ≡ true) joined rest.together;
       extents = ap extents_of (sym joined) ∙ rest.extents ∙ ap (widened (largest (map (λ (s : Interval). s.stop) more))) (extents_again past r together last_r)
@@ -174,7 +175,7 @@ name_is_plain past name start table on = go on.entered.is
         → is_header_name name ≡ false
     go (inl is) =
         let last : is_last_name (chroms_of (intervals_of past)) name ≡ true =
-            sym (last_distinct (chroms_of (intervals_of past)) name on.quiet.together) ∙ sym (ap (λ (l : List (List ℕ)). is_last_name l name) (extent_names (intervals_of past))) ∙ is.0 in
+        sym (last_distinct (chroms_of (intervals_of past)) name on.quiet.together) ∙ sym (ap (λ (l : List (List ℕ)). is_last_name l name) (extent_names (intervals_of past))) ∙ is.0 in
         plain_name name past on.quiet.plain (last_among (chroms_of (intervals_of past)) name last)
     go (inr is) = is.1
 
@@ -225,9 +226,9 @@ all_seen past rs r more name start table old new seen on are all starts low wide
     let here : r.chrom ≡ name = All-head (λ (s : Feature). s.chrom ≡ name) r more all_are in
     let intervals : intervals_of (past ++ rs) ≡ intervals_of past ++ interval_of r ∷ intervals_of more = map-append interval_of past rs ∙ rw are refl in
     let extents = extents_on (intervals_of past) (interval_of r) (intervals_of more) name start table on.quiet.together on.entered here starts
-        (chroms_on name more (All-tail (λ (s : Feature). s.chrom ≡ name) r more all_are)) in
+    (chroms_on name more (All-tail (λ (s : Feature). s.chrom ≡ name) r more all_are)) in
     let ends : largest (map (λ (s : Interval). s.stop) (interval_of r ∷ intervals_of more)) ≡ last_end rs =
-        ap (λ (l : List ℕ). largest (r.stop ∷ l)) (stops_of more) ∙ ap last_end (sym are) in
+    ap (λ (l : List ℕ). largest (r.stop ∷ l)) (stops_of more) ∙ ap last_end (sym are) in
     record {
       plain = quiet.plain;
       together = quiet.together;

@@ -38,7 +38,7 @@ extent_new : (rs : List Interval) (r : Interval) → is_among (chroms_of rs) r.c
     → extent_on (rs ++ r ∷ []) r.chrom ≡ record { chrom = r.chrom; start = r.start; stop = max r.stop 0 }
 extent_new rs r e =
     let all : spans_on r.chrom (rs ++ r ∷ []) ≡ span_of r ∷ [] =
-        spans_on_more r.chrom rs (r ∷ []) ∙ rw (spans_on_none r.chrom rs e, name_eq r.chrom r.chrom refl) refl in
+    spans_on_more r.chrom rs (r ∷ []) ∙ rw (spans_on_none r.chrom rs e, name_eq r.chrom r.chrom refl) refl in
     rw all refl
 
 -- a span after others: the start stays if there were some
@@ -64,7 +64,7 @@ extent_same : (rs : List Interval) (r : Interval) → is_among (chroms_of rs) r.
     → extent_on (rs ++ r ∷ []) r.chrom ≡ record { chrom = r.chrom; start = (extent_on rs r.chrom).start; stop = max (extent_on rs r.chrom).stop r.stop }
 extent_same rs r e =
     let all : spans_on r.chrom (rs ++ r ∷ []) ≡ spans_on r.chrom rs ++ span_of r ∷ [] =
-        spans_on_more r.chrom rs (r ∷ []) ∙ rw (name_eq r.chrom r.chrom refl) refl in
+    spans_on_more r.chrom rs (r ∷ []) ∙ rw (name_eq r.chrom r.chrom refl) refl in
     rw (all, first_of_more (spans_on r.chrom rs) (span_of r ∷ []) (some_on r.chrom rs e), map-append, largest_more) (extent_at_max _ _ _ _)
   where
     extent_at_max : (chrom : List ℕ) (start stop more : ℕ)
@@ -89,7 +89,7 @@ pub extents_new : (rs : List Interval) (r : Interval) → is_among (chroms_of rs
 unfolding extents_of
 extents_new rs r e =
     let names : distinct (chroms_of (rs ++ r ∷ [])) ≡ distinct (chroms_of rs) ++ r.chrom ∷ [] =
-        ap distinct (chroms_more rs r) ∙ distinct_new (chroms_of rs) r.chrom e in
+    ap distinct (chroms_more rs r) ∙ distinct_new (chroms_of rs) r.chrom e in
     rw (names, map-append, extents_apart rs r (distinct (chroms_of rs)) (among_distinct (chroms_of rs) r.chrom ∙ e), extent_new rs r e) refl
 
 -- one more on the last of some names widens its extent

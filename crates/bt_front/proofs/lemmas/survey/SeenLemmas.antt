@@ -60,8 +60,10 @@ looked_more seen first ahead next longest end lacks_strand r longer later withou
   where
     longest_more : (rs : List Interval) → longest ≡ max seen.longest (largest (map length_of rs)) → max longest (r.stop - r.start) ≡ max seen.longest (largest (map length_of (rs ++ interval_of r ∷ [])))
     longest_more rs e = rw (map-append, largest_more) (omega (arith, e))
+
     end_more : max end r.stop ≡ last_end (so.given ++ r ∷ [])
     end_more = rw (map-append, largest_more) (omega (arith, so.end_is))
+
     lacks_more : (a b c : Bool) → ((a || b) || c) ≡ (a || (b || (c || false)))
     lacks_more true b c = refl
     lacks_more false true c = refl
