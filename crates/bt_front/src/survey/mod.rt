@@ -44,7 +44,7 @@ impl Survey {
     ghost use Rattle.bt_front.specs.model.Survey.{AreSeen};
 
     /// Surveys all that a source hands over, by the reader that runs read it with. It gives the source back, and what
-    /// leaves its text to bedtools. Nothing is read after that but a block.
+    /// leaves its text to bedtools. Once it has met that, it reads no more.
     pub fn read<S: Source>(alloc: Global, source: S) -> (Result<Survey, Trouble>, S)
         ensures { ReadsSurvey S.Source source result.1 result.0 }
     {
