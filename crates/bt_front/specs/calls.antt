@@ -3,3 +3,4 @@ pub mod Bytes
 pub mod Chromosomes
 pub mod Orders
 pub mod Stream
+pub mod Survey

@@ -3,3 +3,4 @@ pub mod Words
 pub mod Fitting
 pub mod Odd
 pub mod Verdict
+pub mod Survey

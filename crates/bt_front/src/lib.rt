@@ -1,6 +1,5 @@
-//! What decides who takes a command line of bedtools: its words, and what a survey shows of its
-//! texts. Of the survey there are parts, which nothing calls yet: what bytes show, names of header
-//! lines, and the chromosomes.
+//! What decides who takes a command line of bedtools: its words ([`Asked::of`]), and what a survey
+//! shows of its texts ([`Survey::read`]). Nothing calls them yet.
 //!
 //! Words:
 //!
@@ -8,6 +7,9 @@
 //! - *asked*: what of a plan and its words decides who takes the command line.
 //! - *reason*: why bedtools takes the command line, whatever is in its files.
 //! - *odd line*: one that bedtools reads otherwise than Dunekettle, or takes for the end of the text.
+//! - *survey*: what is in a text, by one pass of the reader that runs read it with.
+//! - *trouble*: why a text has no survey: an odd line, one that Dunekettle refuses, or a chromosome that
+//!   comes back after others.
 //!
 //! An example, which is the test in `example.rt`: two command lines, of which bedtools takes the
 //! second. `strings` makes the words.
@@ -42,12 +44,13 @@ mod verdict;
 mod words;
 
 pub use order::common_order::common_order;
-pub use survey::Survey;
 pub use stream::keeping::Keeping;
 pub use stream::pouring::{Unpoured, pour};
+pub use survey::Survey;
 pub use survey::chromosomes::{Chromosomes, Extent};
 pub use survey::oddity::{OddLine, Oddity};
 pub use survey::records_seen::RecordsSeen;
+pub use survey::trouble::Trouble;
 pub use verdict::counts::lists_hits;
 pub use verdict::reason::{InOrderOf, Reason};
 pub use words::Asked;

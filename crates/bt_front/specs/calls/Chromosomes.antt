@@ -1,5 +1,7 @@
 -- The chromosomes that a survey holds.
-use Rattle.std.specs.Prelude.{ℕ, List, [], ◌∷◌, map, max, Vec}
+use Rattle.std.specs.Prelude.{ℕ, Bool, true, false, ◌&&◌, List, [], ◌∷◌, bytes_eq, map, max, Vec}
+use Rattle.std.specs.Ordering.{is_lt, nat_cmp}
+use Rattle.std.specs.Cmp.Lexicographic.{slice_cmp}
 use Rattle.std.specs.declared.alloc.Global.{Global}
 use Rattle.bt_bed.specs.model.Feature.{Interval}
 use Rattle.bt_front.specs.declared.survey.chromosomes.Chromosomes.{Chromosomes}
@@ -26,3 +28,17 @@ abbrev pub widened : ℕ → List Interval → List Interval
 widened stop [] = []
 widened stop (r ∷ []) = record { chrom = r.chrom; start = r.start; stop = max r.stop stop } ∷ []
 widened stop (r ∷ s ∷ rs) = r ∷ widened stop (s ∷ rs)
+
+-- Names.
+
+-- whether the last of some names is this one
+abbrev pub is_last_name : List (List ℕ) → List ℕ → Bool
+is_last_name [] name = false
+is_last_name (n ∷ []) name = bytes_eq n name
+is_last_name (n ∷ m ∷ ns) name = is_last_name (m ∷ ns) name
+
+-- whether each name comes before the next one by their bytes
+abbrev pub ascend_by_bytes : List (List ℕ) → Bool
+ascend_by_bytes [] = true
+ascend_by_bytes (n ∷ []) = true
+ascend_by_bytes (n ∷ m ∷ ns) = is_lt (slice_cmp nat_cmp n m) && ascend_by_bytes (m ∷ ns)

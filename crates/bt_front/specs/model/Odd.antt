@@ -1,10 +1,11 @@
 -- Lines that bedtools 2.30.0 may read otherwise, or take for the end of a text.
-use Rattle.std.specs.Prelude.{ℕ, suc, Bool, true, false, ◌≡◌, ◌==◌, ◌&&◌, ◌||◌, not, List, [], ◌∷◌, ◌++◌, bytes_eq, codes, length, map, nat_lt, nat_le, take, drop, Option, Some, None}
+use Rattle.std.specs.Prelude.{ℕ, suc, ◌-◌, ◌^◌, min, Bool, true, false, ◌≡◌, ◌==◌, ◌&&◌, ◌||◌, not, List, [], ◌∷◌, ◌++◌, bytes_eq, codes, length, map, nat_lt, nat_le, take, drop, Option, Some, None}
 use Rattle.std.specs.List.{list_any, list_all}
 use Rattle.std.specs.Io.BufRead.{strip_last}
 use Rattle.std.specs.Char.{to_ascii_lowercase}
 use Rattle.bt_lines.specs.model.Lines.{pieces}
 use Rattle.bt_front.specs.declared.survey.oddity.Oddity.{Oddity}
+use Rattle.bt_front.specs.declared.survey.oddity.OddLine.{OddLine}
 use Rattle.bt_front.specs.declared.survey.oddity.Oddity.TheVariants.{Blank, DoubleReturn, Nul, Long, Vcf, ByteOrderMark, Gzip, HeaderName, FarEnd}
 
 -- Lines as bytes: what comes before each line feed, with a carriage return if there is one, and a last piece that isn't
@@ -64,6 +65,12 @@ pub record IsFirstOdd (lines : List RawLine) (number : ℕ) (oddity : Oddity) : 
   pub plain_before : list_all is_plain before ≡ true
   pub number_is : line.number ≡ number
   pub odd : is_odd oddity line ≡ true
+
+-- the first line of a text that is odd by its bytes; its number is cut at the largest of 64 bits
+pub record IsOddLine (text : List ℕ) (odd : OddLine) : Type 0 where
+  pub number : ℕ
+  pub first : IsFirstOdd (raw_lines text) number odd.oddity
+  pub line : odd.line ≡ min (2 ^ 64 - 1) number
 
 -- whether a byte is NUL, CR or #
 abbrev pub is_mark : ℕ → Bool

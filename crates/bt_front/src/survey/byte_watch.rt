@@ -279,8 +279,22 @@ impl ByteWatch {
     }
 }
 
-// How many line feeds there are.
-fn feeds_in(bytes: &[u8]) -> u64
+/// How many line feeds there are.
+pub(crate) fn feeds_in(bytes: &[u8]) -> u64
+    ensures { result ≡ feeds_in bytes.now }
+{
+    let mut count = 0_u64;
+    let mut at = 0;
+    while bytes.len() - at >= LANES {
+        let feeds = feed_bits(u8x64::from_slice(&bytes[at..]));
+        count += u64::from(feeds.count_ones());
+        at += LANES;
+    }
+    count + few_feeds(&bytes[at..])
+}
+
+// The same, byte by byte.
+fn few_feeds(bytes: &[u8]) -> u64
     ensures { result ≡ feeds_in bytes.now }
 {
     bytes.iter().filter(|byte| **byte == b'\n').count() as u64

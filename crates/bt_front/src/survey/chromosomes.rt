@@ -1,7 +1,10 @@
 //! The chromosomes of a text.
 
-ghost use Rattle.std.specs.Prelude.{◌<◌};
+ghost use Rattle.std.specs.Prelude.{◌≡◌, ◌<◌};
+ghost use Rattle.std.specs.Ordering.{is_lt, nat_cmp};
+ghost use Rattle.std.specs.Cmp.Lexicographic.{slice_cmp};
 
+use bt_bed::is_same_name;
 use indexmap::IndexMap;
 use std::alloc::{AllocError, Global};
 
@@ -25,7 +28,7 @@ pub struct Chromosomes {
 impl Chromosomes {
     ghost use Rattle.std.specs.Prelude.{◌≡◌, ◌∷◌, ◌++◌, [], IfErr, OnOk, OnErr, Some, length, option_map, slice_get, false};
     ghost use Rattle.bt_bed.specs.model.Order.{is_among, rank_of};
-    ghost use Rattle.bt_front.specs.calls.Chromosomes.{extents_in, names_in, placed, widened};
+    ghost use Rattle.bt_front.specs.calls.Chromosomes.{ascend_by_bytes, extents_in, is_last_name, names_in, placed, widened};
 
     /// None yet.
     pub fn new(alloc: Global) -> Chromosomes
@@ -50,6 +53,26 @@ impl Chromosomes {
     {
         let (name, _) = self.extents.get_index(at).unwrap();
         name.as_slice()
+    }
+
+    // Whether the last of them has this name.
+    pub(crate) fn is_last(&self, name: &[u8]) -> bool
+        ensures { result ≡ is_last_name (names_in self.now) name.now }
+    {
+        let count = self.count();
+        count > 0 && is_same_name(self.name(count - 1), name)
+    }
+
+    /// Whether each of them comes before the next one by the bytes of their names.
+    pub fn are_by_bytes(&self) -> bool
+        ensures { result ≡ ascend_by_bytes (names_in self.now) }
+    {
+        for at in 1..self.count() {
+            if !is_before(self.name(at - 1), self.name(at)) {
+                return false;
+            }
+        }
+        true
     }
 
     /// The place of a name, from 0, if it is one of them.
@@ -92,6 +115,13 @@ impl Chromosomes {
             extent.stop = extent.stop.max(stop);
         }
     }
+}
+
+// Whether a name comes before another by their bytes.
+fn is_before(name: &[u8], other: &[u8]) -> bool
+    ensures { result ≡ is_lt (slice_cmp nat_cmp name.now other.now) }
+{
+    name.cmp(other).is_lt()
 }
 
 #[cfg(test)]

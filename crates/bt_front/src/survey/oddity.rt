@@ -23,10 +23,10 @@ pub enum Oddity {
     FarEnd,
 }
 
-/// A line that bedtools may read otherwise. No call gives one yet.
+/// A line that bedtools may read otherwise.
 #[derive(Clone, Copy, Debug, PartialEq, Eq)]
 pub struct OddLine {
-    /// Its number, counted from 1.
+    /// Its number, counted from 1, at most `u64::MAX`.
     pub line: u64,
     /// One of the things that are odd in it.
     pub oddity: Oddity,

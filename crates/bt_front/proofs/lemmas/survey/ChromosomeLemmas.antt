@@ -1,12 +1,12 @@
 -- Lemmas on the table of chromosomes that a survey holds.
-use Rattle.bt_lines.proofs.Std.{arith, common_steps, ◌≡◌, ℕ, ◌+◌, ◌-◌, ◌<◌, ◌≤◌, ◌++◌, List, [], ◌∷◌, Option, Some, None, Vec, bytes_eq, false, keys_of, length, map, map-append, max, option_map, or_parts, position, position_from, position_from-zero, refl, ap, slice_get, slice_get-map, suc, zero}
+use Rattle.bt_lines.proofs.Std.{arith, common_steps, ◌≡◌, ℕ, ◌+◌, ◌-◌, ◌<◌, ◌≤◌, ◌++◌, ◌&&◌, ◌||◌, Bool, cases_lt, cond, inl, inr, is_some, subst, sym, true, is_lt, nat_cmp, slice_cmp, List, [], ◌∷◌, Option, Some, None, Vec, bytes_eq, false, keys_of, length, map, map-append, max, option_map, or_parts, position, position_from, position_from-zero, refl, ap, slice_get, slice_get-map, suc, zero}
 use Rattle.std.specs.declared.alloc.Global.{Global}
 use Rattle.indexmap.specs.IndexMap.{insert_entry}
 use Rattle.indexmap.specs.Layout.{set_value_at}
 use Rattle.bt_bed.specs.model.Feature.{Interval}
 use Rattle.bt_bed.specs.model.Order.{is_among, rank_of}
 use Rattle.bt_bed.proofs.lemmas.parse.NameLemmas.{name_eq-sym}
-use Rattle.bt_front.specs.calls.Chromosomes.{extent_seen, placed, widened}
+use Rattle.bt_front.specs.calls.Chromosomes.{ascend_by_bytes, extent_seen, is_last_name, placed, widened}
 use Rattle.bt_front.specs.declared.survey.chromosomes.Extent.{Extent}
 
 abbrev Table : Type 0
@@ -68,3 +68,71 @@ widened_at (entry ∷ []) (suc at) extent stop last is = absurd (omega arith)
 widened_at (entry ∷ next ∷ more) zero extent stop last is = absurd (omega arith)
 widened_at (entry ∷ next ∷ more) (suc at) extent stop last is =
     ap (λ (rest : List Interval). extent_seen entry ∷ rest) (widened_at (next ∷ more) at extent stop (omega arith) is)
+
+-- the name at the last place is the last name
+pub last_at : (names : List (List ℕ)) (at : ℕ) (name text : List ℕ) → suc at ≡ length names → slice_get names at ≡ Some name
+    → bytes_eq name text ≡ is_last_name names text
+last_at [] at name text last is = absurd (omega arith)
+last_at (n ∷ []) zero name text last is = let same : n ≡ name = cc in rw same refl
+last_at (n ∷ []) (suc at) name text last is = absurd (omega arith)
+last_at (n ∷ m ∷ ns) zero name text last is = absurd (omega arith)
+last_at (n ∷ m ∷ ns) (suc at) name text last is = last_at (m ∷ ns) at name text (omega arith) is
+
+-- each of the first names comes before the next one by their bytes
+pub record AscendUpTo (names : List (List ℕ)) (at : ℕ) : Type 0 where
+  pub each : (k : ℕ) (one other : List ℕ) → suc k < at → slice_get names k ≡ Some one → slice_get names (suc k) ≡ Some other
+      → is_lt (slice_cmp nat_cmp one other) ≡ true
+
+-- so do all
+pub all_ascend : (names : List (List ℕ)) → AscendUpTo names (length names) → ascend_by_bytes names ≡ true
+all_ascend [] up = refl
+all_ascend (n ∷ []) up = refl
+all_ascend (n ∷ m ∷ ns) up =
+    rw (up.each 0 n m (omega arith) refl refl, all_ascend (m ∷ ns) (record { each = λ k one other low here next. up.each (suc k) one other (omega arith) here next })) refl
+
+-- one that doesn't
+falls_at : (names : List (List ℕ)) (k : ℕ) (one other : List ℕ) → slice_get names k ≡ Some one → slice_get names (suc k) ≡ Some other
+    → is_lt (slice_cmp nat_cmp one other) ≡ false → ascend_by_bytes names ≡ false
+falls_at [] zero one other here next falls = cc
+falls_at [] (suc k) one other here next falls = cc
+falls_at (n ∷ []) zero one other here next falls = cc
+falls_at (n ∷ []) (suc k) one other here next falls = cc
+falls_at (n ∷ m ∷ ns) zero one other here next falls =
+    let first : n ≡ one = cc in let second : m ≡ other = cc in rw (first, second, falls) refl
+falls_at (n ∷ m ∷ ns) (suc k) one other here next falls = rw (falls_at (m ∷ ns) k one other here next falls) (and_none _)
+  where
+    and_none : (b : Bool) → (b && false) ≡ false
+    and_none true = refl
+    and_none false = refl
+
+pub one_falls : (names : List (List ℕ)) (k at : ℕ) (one other : List ℕ) → suc k ≡ at → slice_get names k ≡ Some one → slice_get names at ≡ Some other
+    → is_lt (slice_cmp nat_cmp one other) ≡ false → ascend_by_bytes names ≡ false
+one_falls names k at one other is here next falls =
+    falls_at names k one other here (subst (λ (n : ℕ). slice_get names n ≡ Some other) (sym is) next) falls
+
+-- one more that does
+pub ascend_more : (names : List (List ℕ)) (at k : ℕ) (one other : List ℕ) → AscendUpTo names at → suc k ≡ at → slice_get names k ≡ Some one → slice_get names at ≡ Some other
+    → is_lt (slice_cmp nat_cmp one other) ≡ true → AscendUpTo names (at + 1)
+ascend_more names at k one other up is here next rises = record { each = each }
+  where
+    each : (j : ℕ) (first second : List ℕ) → suc j < at + 1 → slice_get names j ≡ Some first → slice_get names (suc j) ≡ Some second
+        → is_lt (slice_cmp nat_cmp first second) ≡ true
+    each j first second low this then = elim (cases_lt (suc j) at) [
+      | inl below ↦ up.each j first second below this then
+      | inr not_below ↦ (let same : j ≡ k = omega (arith, not_below) in
+          let here_too : slice_get names j ≡ Some one = rw same here in
+          let next_at : suc j ≡ at = omega arith in
+          let next_too : slice_get names (suc j) ≡ Some other = rw next_at next in
+          let one_is : first ≡ one = cc in let other_is : second ≡ other = cc in
+          rw (one_is, other_is) rises)
+    ]
+
+-- a name that has a rank is among the names
+pub ranked_among : (names : List (List ℕ)) (name : List ℕ) → is_some (rank_of names name) ≡ is_among names name
+ranked_among [] name = refl
+ranked_among (n ∷ ns) name = ranked (bytes_eq n name) (rank_of ns name) (is_among ns name) (ranked_among ns name)
+  where
+    ranked : (first : Bool) (rest : Option ℕ) (among : Bool) → is_some rest ≡ among → is_some (cond first (Some 0) (option_map (λ (rank : ℕ). suc rank) rest)) ≡ (first || among)
+    ranked true rest among e = refl
+    ranked false None among e = e
+    ranked false (Some rank) among e = e

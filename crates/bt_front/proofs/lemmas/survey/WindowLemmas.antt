@@ -1,9 +1,12 @@
 -- Lemmas on a window of a block, of which as many lines as end in it are passed.
-use Rattle.bt_lines.proofs.Std.{arith, ◌≡◌, ℕ, ◌+◌, ◌-◌, ◌<◌, ◌≤◌, ◌==◌, ◌++◌, ◌∙◌, Bool, true, false, List, [], ◌∷◌, ap, append_assoc, drop, drop-drop, eqb-true, false_from_ne_true, get_or, if◌then◌else◌, length, length-append, length-take-le, refl, suc, sym, subst, take, take-add, take-append-drop, take-length, take-take, take_more, zero, bit_and, map, mask_l, drop-length}
-use Rattle.bt_front.specs.calls.Bytes.{last_after}
+use Rattle.bt_lines.proofs.Std.{arith, ◌≡◌, ℕ, ◌+◌, ◌-◌, ◌<◌, ◌≤◌, ◌==◌, ◌++◌, ◌∙◌, Bool, true, false, List, [], ◌∷◌, ap, append_assoc, count_by-le-length, drop, drop-drop, length-drop, eqb-true, false_from_ne_true, get_or, if◌then◌else◌, length, length-append, length-take-le, refl, suc, sym, subst, take, take-add, take-append-drop, take-length, take-take, take_more, zero, bit_and, map, mask_l, drop-length}
+use Rattle.std.specs.Prelude.{count_ones}
+use Rattle.std.proofs.lemmas.Simd.{ones-mask_l}
+use Rattle.bt_front.specs.calls.Bytes.{feeds_in, last_after}
 use Rattle.bt_front.specs.declared.survey.byte_watch.ByteWatch.{ByteWatch}
 use Rattle.bt_front.specs.inside.Watching.{AreQuiet, IsPassed, fed}
 use Rattle.bt_front.specs.model.Odd.{has_special, is_feed, is_mark}
+use Rattle.bt_front.proofs.lemmas.survey.LineLemmas.{feeds_more}
 use Rattle.bt_front.proofs.lemmas.survey.RunLemmas.{HasNoFeed, around, fed_quiet, line_quiet, longer, passed_fed, passed_line, passed_more}
 use Rattle.bt_front.proofs.lemmas.survey.SpecialLemmas.{special_chunk}
 
@@ -92,3 +95,19 @@ special_block block at n room marks feeds rest =
     special_chunk n (drop at block) room marks
     (ap (λ (l : List ℕ). bit_and (mask_l (map is_feed (take n (drop at block)))) (mask_l (map is_feed (take n l)))) (drop-drop 1 at block) ∙ feeds)
     (ap has_special (drop-drop n at block) ∙ rest)
+
+-- the line feeds of a block, and of what comes after
+pub feeds_block : (bytes : List ℕ) (at n : ℕ) → feeds_in (take (at + n) bytes) ≡ feeds_in (take at bytes) + count_ones (mask_l (map is_feed (take n (drop at bytes))))
+feeds_block bytes at n =
+    ap feeds_in (take-add at n bytes) ∙ feeds_more (take at bytes) (take n (drop at bytes))
+    ∙ ap (λ (m : ℕ). feeds_in (take at bytes) + m) (sym (ones-mask_l is_feed (take n (drop at bytes))))
+
+pub feeds_rest : (bytes : List ℕ) (at : ℕ) → feeds_in bytes ≡ feeds_in (take at bytes) + feeds_in (take (length bytes - at) (drop at bytes))
+feeds_rest bytes at =
+    let whole : take (length bytes - at) (drop at bytes) ≡ drop at bytes = ap (λ (n : ℕ). take n (drop at bytes)) (sym (length-drop at bytes)) ∙ take-length (drop at bytes) in
+    ap feeds_in (sym (take-append-drop at bytes)) ∙ feeds_more (take at bytes) (drop at bytes)
+    ∙ ap (λ (l : List ℕ). feeds_in (take at bytes) + feeds_in l) (sym whole)
+
+-- there are no more of them than bytes
+pub feeds_within : (bytes : List ℕ) → feeds_in bytes ≤ length bytes
+feeds_within bytes = count_by-le-length (λ (byte : ℕ). byte == 10) bytes

@@ -1,0 +1,185 @@
+-- Lemmas on surveying a source.
+use Rattle.bt_lines.proofs.Std.{arith, ◌≡◌, ◌∙◌, ◌⊎◌, ℕ, ◌++◌, [], Consumes, IfSome, IsAtEnd, IsSome, List, None, Option, Some, ap, append-nil, append_assoc, false, false≢true, inl, inr, is_some, list_all, option_map, refl, subst, sym, true}
+use Rattle.bt_lines.specs.calls.Device.{FailsAfter, ReadsOn, begun, gave}
+use Rattle.bt_lines.specs.calls.Reader.{Hands, fault_kept as line_fault, input_of, lines_left, source_of}
+use Rattle.bt_lines.specs.declared.fault.Input.{Input}
+use Rattle.bt_lines.specs.declared.fault.Input.TheVariants.{First}
+use Rattle.bt_lines.specs.declared.reader.line_reader.LineReader.{LineReader}
+use Rattle.bt_lines.specs.model.Lines.{text_lines}
+use Rattle.bt_lines.specs.declared.device.Source.{Ghosts as Source}
+use Rattle.bt_lines.specs.model.Fault.{FaultValue}
+use Rattle.bt_lines.proofs.lemmas.reader.block.ReadsLemmas.{no_fault}
+use Rattle.bt_bed.specs.calls.Blocks.{below, view_of}
+use Rattle.bt_bed.specs.calls.Reading.{good_coming}
+use Rattle.bt_bed.specs.declared.read.blocks.Blocks.{Blocks}
+use Rattle.bt_bed.specs.model.Feature.{Feature}
+use Rattle.bt_bed.specs.model.Good.{Good, block_format, good, items_in}
+use Rattle.bt_front.specs.calls.Survey.{LeavesText, Surveys}
+use Rattle.bt_front.specs.declared.survey.Survey.{Survey}
+use Rattle.bt_front.specs.declared.survey.oddity.OddLine.{OddLine}
+use Rattle.bt_front.specs.declared.survey.trouble.Trouble.{Trouble}
+use Rattle.bt_front.specs.declared.survey.trouble.Trouble.TheVariants.{ComesBack, Odd, Refused}
+use Rattle.bt_front.specs.declared.survey.watched.Watched.{Watched}
+use Rattle.bt_front.specs.inside.Seeing.{HasSeenAll, StopsSeeing}
+use Rattle.bt_front.specs.inside.Watched.{BeginsOdd, EndsBy, FailsWatched, IsWatchedRead, ServesWatched, Shows, ShowsBy, watched_source}
+use Rattle.bt_front.specs.model.Odd.{IsOddLine, is_plain, raw_lines}
+use Rattle.bt_front.specs.model.Survey.{AreSeen, IsSurveyOf, IsTroubleIn, IsTroubleOf, read_of}
+
+-- ---- the reads of a watched source are those of the source below, and the bytes are looked at
+
+module _ {S : Type 0} (IsRead : S → Option (List ℕ) → S → Type 0) where
+  pub reads_below : {first last : Watched S} {bytes : List ℕ} → ReadsOn (IsWatchedRead IsRead) first bytes last → ReadsOn IsRead first.source bytes last.source
+  reads_below begun = begun
+  reads_below (gave two piece after is) = gave (reads_below two) piece after.source is.served
+
+  pub shows_after : {first last : Watched S} {bytes : List ℕ} → ReadsOn (IsWatchedRead IsRead) first bytes last → (past : List ℕ) → Shows past first → Shows (past ++ bytes) last
+  shows_after {last} begun past shows = subst (λ (l : List ℕ). Shows l last) (sym (append-nil past)) shows
+  shows_after (gave {bytes} two piece after is) past shows =
+      subst (λ (l : List ℕ). Shows l after) (append_assoc past bytes piece) (is.passes (past ++ bytes) (shows_after two past shows))
+
+  fails_below : (first last : Watched S) (bytes : List ℕ) → FailsAfter (IsWatchedRead IsRead) first bytes last
+      → ReadsOn IsRead first.source bytes last.source ⊎ FailsAfter IsRead first.source bytes last.source
+  fails_below first last bytes fails = go fails.fails.cause
+    where
+      go : ((last.source ≡ fails.before.source) × IsSome last.found) ⊎ IsRead fails.before.source None last.source
+          → ReadsOn IsRead first.source bytes last.source ⊎ FailsAfter IsRead first.source bytes last.source
+      go (inl stopped) = inl (subst (λ (s : S). ReadsOn IsRead first.source bytes s) (sym stopped.0) (reads_below fails.served))
+      go (inr failed) = inr (record { before = fails.before.source; served = reads_below fails.served; fails = failed })
+
+  -- all that the reads of a call did
+  pub handed_below : (first last : Watched S) (bytes : List ℕ) (Faulty : Type 0) → ReadsOn (IsWatchedRead IsRead) first bytes last ⊎ (FailsAfter (IsWatchedRead IsRead) first bytes last × Faulty)
+      → ReadsOn IsRead first.source bytes last.source ⊎ FailsAfter IsRead first.source bytes last.source
+  handed_below first last bytes Faulty (inl reads) = inl (reads_below reads)
+  handed_below first last bytes Faulty (inr fails) = fails_below first last bytes fails.0
+
+  pub shows_handed : (first last : Watched S) (bytes : List ℕ) (Faulty : Type 0) → ReadsOn (IsWatchedRead IsRead) first bytes last ⊎ (FailsAfter (IsWatchedRead IsRead) first bytes last × Faulty)
+      → Shows [] first → Shows bytes last
+  shows_handed first last bytes Faulty (inl reads) shows = shows_after reads [] shows
+  shows_handed first last bytes Faulty (inr fails) shows = fails.0.fails.keeps bytes (shows_after fails.0.served [] shows)
+
+-- ---- known bytes
+
+-- those that are left come after those handed over
+rest_known : (text : List ℕ) (new : Option (List ℕ)) (bytes : List ℕ) → Consumes (Some text) new bytes → (rest : List ℕ) × (text ≡ bytes ++ rest)
+rest_known text None bytes consumes = absurd consumes
+rest_known text (Some rest) bytes consumes = (rest, consumes)
+
+-- at the end none are
+all_known : (text : List ℕ) (new : Option (List ℕ)) (bytes : List ℕ) → Consumes (Some text) new bytes → IsAtEnd new → text ≡ bytes
+all_known text None bytes consumes ends = absurd consumes
+all_known text (Some rest) bytes consumes ends = consumes ∙ ap (λ (l : List ℕ). bytes ++ l) ends ∙ append-nil bytes
+
+-- ---- a survey
+
+-- the trouble of the records is one of the text
+in_text : (text : List ℕ) (trouble : Trouble) → IsTroubleIn (read_of text) trouble → IsTroubleOf text trouble
+in_text text (Odd odd) is = inr is
+in_text text (Refused fault) is = is
+in_text text (ComesBack line) is = is
+
+module _ {S : Type 0} (device : Source S) where
+  -- a reader of the records of a source that is watched
+  pub record Watching (source : S) (blocks : Blocks (Watched S)) : Type 0 where
+    pub source_is : (source_of (below blocks)).source ≡ source
+    pub shows : Shows [] (source_of (below blocks))
+    pub good : (text : List ℕ) → device.left source ≡ Some text → good_coming (watched_source device).left (view_of blocks) ≡ Some (read_of text)
+
+  -- one that was just made is
+  pub watching : (source : S) (watched : Watched S) (reader : LineReader (Watched S)) (blocks : Blocks (Watched S)) → watched.source ≡ source → Shows [] watched
+      → source_of reader ≡ watched → input_of reader ≡ First → lines_left (watched_source device).left reader ≡ option_map text_lines (device.left watched.source)
+      → below blocks ≡ reader → good_coming (watched_source device).left (view_of blocks) ≡ option_map (good block_format (input_of reader)) (lines_left (watched_source device).left reader)
+      → Watching source blocks
+  watching source watched reader blocks here shows above input lines holds coming =
+      let at : source_of (below blocks) ≡ watched = ap source_of holds ∙ above in record {
+        source_is = ap (λ (w : Watched S). w.source) at ∙ here;
+        shows = subst (λ (w : Watched S). Shows [] w) (sym at) shows;
+        good = λ text known. coming ∙ ap (λ (i : Input). option_map (good block_format i) (lines_left (watched_source device).left reader)) input
+            ∙ ap (option_map (good block_format First)) (lines ∙ ap (λ (o : Option (List ℕ)). option_map text_lines o) (ap device.left here ∙ known));
+      }
+
+  module _ (source : S) (old new : Blocks (Watched S)) (watched : Watched S) (after : S) (so : Watching source old) (is : watched ≡ source_of (below new)) (ends : after ≡ watched.source) where
+    same : after ≡ (source_of (below new)).source
+    same = ends ∙ ap (λ (w : Watched S). w.source) is
+
+    module _ (bytes : List ℕ) (hands : Hands (watched_source device) (below old) bytes (below new)) where
+      handed : ReadsOn device.is_read source bytes after ⊎ FailsAfter device.is_read source bytes after
+      handed =
+          subst (λ (s : S). ReadsOn device.is_read source bytes s ⊎ FailsAfter device.is_read source bytes s) (sym same)
+          (subst (λ (s : S). ReadsOn device.is_read s bytes (source_of (below new)).source ⊎ FailsAfter device.is_read s bytes (source_of (below new)).source) so.source_is
+          (handed_below device.is_read (source_of (below old)) (source_of (below new)) bytes (IsSome (line_fault (below new))) hands.reads))
+
+      shown : Shows bytes watched
+      shown = subst (λ (w : Watched S). Shows bytes w) (sym is) (shows_handed device.is_read (source_of (below old)) (source_of (below new)) bytes (IsSome (line_fault (below new))) hands.reads so.shows)
+
+      known_from : (text : List ℕ) → device.left source ≡ Some text → Consumes (Some text) (device.left (source_of (below new)).source) bytes
+      known_from text known =
+          subst (λ (o : Option (List ℕ)). Consumes o (device.left (source_of (below new)).source) bytes) (ap device.left so.source_is ∙ known) hands.left_over
+
+      told_of : (P : Good Feature → Type 0) → IfSome (good_coming (watched_source device).left (view_of old)) P → (text : List ℕ) → device.left source ≡ Some text → P (read_of text)
+      told_of P told text known = subst (λ (o : Option (Good Feature)). IfSome o P) (so.good text known) told
+
+    -- the records were seen to the end, whose last line isn't odd
+    pub surveyed : (survey : Survey) → HasSeenAll (watched_source device) old new survey → ((bytes : List ℕ) → Shows bytes watched → EndsBy bytes None) → Surveys device source after survey
+    surveyed survey sees plain =
+        let bytes = sees.bytes.0 in
+        let end = sees.kept.end sees.told in
+        let lines : list_all is_plain (raw_lines bytes) ≡ true = plain bytes (shown bytes sees.bytes.1) in
+        let whole : (text : List ℕ) → device.left source ≡ Some text → text ≡ bytes = λ text known. all_known text _ bytes (known_from bytes sees.bytes.1 text known) end.1 in
+        let tells = λ (text : List ℕ) (known : device.left source ≡ Some text). told_of bytes sees.bytes.1 (λ good. (good.fault ≡ None) × AreSeen (items_in good) survey) sees.all text known in
+        record {
+          bytes = bytes;
+          served = all_served sees.bytes.1.reads;
+          told = rw same end.0;
+          plain = lines;
+          known = λ text known. (
+            whole text known,
+            record {
+              plain = subst (λ (l : List ℕ). list_all is_plain (raw_lines l) ≡ true) (sym (whole text known)) lines;
+              faultless = (tells text known).0;
+              records = (tells text known).1;
+            },
+          );
+        }
+      where
+        all_served : ReadsOn (IsWatchedRead device.is_read) (source_of (below old)) sees.bytes.0 (source_of (below new))
+            ⊎ (FailsAfter (IsWatchedRead device.is_read) (source_of (below old)) sees.bytes.0 (source_of (below new)) × IsSome (line_fault (below new)))
+            → ReadsOn device.is_read source sees.bytes.0 after
+        all_served (inl reads) =
+            subst (λ (s : S). ReadsOn device.is_read source sees.bytes.0 s) (sym same)
+            (subst (λ (s : S). ReadsOn device.is_read s sees.bytes.0 (source_of (below new)).source) so.source_is (reads_below device.is_read reads))
+        all_served (inr fails) = absurd (no_fault (line_fault (below new)) sees.going fails.1)
+
+    -- the last line is odd
+    pub ends_odd : (survey : Survey) (odd : OddLine) → HasSeenAll (watched_source device) old new survey → ((bytes : List ℕ) → Shows bytes watched → EndsBy bytes (Some odd)) → LeavesText device source after (Odd odd)
+    ends_odd survey odd sees finds =
+        let bytes = sees.bytes.0 in
+        let end = sees.kept.end sees.told in
+        let line : IsOddLine bytes odd = finds bytes (shown bytes sees.bytes.1) in record {
+          bytes = bytes;
+          handed = handed bytes sees.bytes.1;
+          known = λ text known. (let whole : text ≡ bytes = all_known text _ bytes (known_from bytes sees.bytes.1 text known) end.1 in
+              (([], whole ∙ sym (append-nil bytes)), inl (subst (λ (l : List ℕ). IsOddLine l odd) (sym whole) line)));
+        }
+
+    -- an odd line passed
+    pub found_odd : (odd : OddLine) (trouble : Trouble) → StopsSeeing (watched_source device) old new trouble → watched.found ≡ Some odd → LeavesText device source after (Odd odd)
+    found_odd odd trouble stops found =
+        let bytes = stops.bytes.0 in
+        let begins : BeginsOdd bytes odd = subst (λ (o : Option OddLine). ShowsBy bytes watched.watch watched.feeds o) found (shown bytes stops.bytes.1).by in record {
+          bytes = bytes;
+          handed = handed bytes stops.bytes.1;
+          known = λ text known. (let rest = rest_known text _ bytes (known_from bytes stops.bytes.1 text known) in
+              (rest, inl (subst (λ (l : List ℕ). IsOddLine l odd) (sym rest.1) (begins.first rest.0))));
+        }
+
+    -- or the records leave the text to bedtools
+    pub leaves : (trouble : Trouble) → StopsSeeing (watched_source device) old new trouble → LeavesText device source after trouble
+    leaves trouble stops =
+        let bytes = stops.bytes.0 in record {
+          bytes = bytes;
+          handed = handed bytes stops.bytes.1;
+          known = λ text known. (
+            rest_known text _ bytes (known_from bytes stops.bytes.1 text known),
+            in_text text trouble (told_of bytes stops.bytes.1 (λ good. IsTroubleIn good trouble) stops.trouble_is text known),
+          );
+        }
