@@ -63,7 +63,7 @@ def sections(commands):
 
 def synopsis(command, section):
     """How a command is called, in one line without the program's name: the first block of its part of COMMANDS.md."""
-    lines = re.search(rf"^    {NAME} ({command} .*(?:\n {{5,}}\S.*)*)$", section, re.MULTILINE)[1]
+    lines = re.search(rf"^    {FRONT} ({command} .*(?:\n {{5,}}\S.*)*)$", section, re.MULTILINE)[1]
     return " ".join(lines.split())
 
 
