@@ -102,11 +102,12 @@ def print_all(command):
 
 
 def hint_of(advice):
-    """What a hint says instead of an option: the scripts that replace it, or to leave it out, or nothing."""
+    """What a hint says instead of an option: the scripts that replace it, or to leave it out, or nothing; and the options
+    of which the scripts need one."""
     scripts = [] if advice.startswith("none") else re.findall(r"`([\w-]+\.sh)`", advice)
-    if scripts:
-        return f"docs/RECIPES.md, {' or '.join(dict.fromkeys(scripts))}"
-    return advice if advice.startswith("leave") else ""
+    needed = re.search(r"(?:for|beside) (.*); else none$", advice)
+    words = " ".join(re.findall(r"`(-\w+)`", needed[1])) if needed else ""
+    return f"{' '.join(dict.fromkeys(scripts)) or (advice if advice.startswith('leave') else '')}\t{words}"
 
 
 def instead():
@@ -115,7 +116,7 @@ def instead():
         for word in row.words if row.taken == "no" else ():
             if word.startswith("-"):
                 yield f"{row.command}\t{word}\t{hint_of(row.advice)}\n"
-    yield "intersect\tseveral -b\tdocs/RECIPES.md, intersect-files.sh\n"
+    yield "intersect\tseveral -b\tintersect-files.sh\t-u -v -c -C -wb\n"
 
 
 def listed(command):
