@@ -144,11 +144,14 @@ completions:
 	tools/completions.py
 	tools/manuals.py
 
+# Whether make was called with -s.
+is_silent = $(findstring s,$(filter-out -%,$(firstword $(MAKEFLAGS))))
+
 # The manual pages and the completions get the program's name there.
 install: $(PROGRAM)
 	packaging/install.sh "$$DESTDIR$$PREFIX" "$$PREFIX" "$$NAME" $(PROGRAM) $(DOCS)
-	@[ -n "$$DESTDIR" ] || printf '%s\n' "Installed: $$PREFIX/bin/dunekettle. The drop-in, for a shell or a script:" \
-	"    export PATH=\"$$PREFIX/lib/dunekettle/bin:\$$PATH\""
+	$(if $(is_silent),,@[ -n "$$DESTDIR" ] || printf '%s\n' "Installed: $$PREFIX/bin/dunekettle. The drop-in:" \
+	"    export PATH=\"$$PREFIX/lib/dunekettle/bin:\$$PATH\"")
 
 uninstall:
 	packaging/uninstall.sh "$$DESTDIR$$PREFIX" "$$NAME"

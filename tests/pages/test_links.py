@@ -70,6 +70,8 @@ SAME = {
     "how long many reads that overlap took": {
         "CHANGELOG.md": r"on 30,000 bases took (\S+ s), and take (\S+ s)",
         "bench/HISTORY.md": r"on 30,000 bases\* (\S+ s) to (\S+ s)"},
+    "how many scripts are slower than bedtools": {
+        "README.md": r"(\d+) of (\d+) are slower than bedtools", "docs/RECIPES.md": r"(\d+) of (\d+) scripts are slower"},
     "how many bytes wait to be written": {
         "docs/COMMANDS.md": r"Ready lines are written ([\d,]+) bytes",
         "docs/PROVED.md": r"At most ([\d,]+) bytes of settled",
