@@ -55,6 +55,8 @@ UNTRUE = {
     r"merge -g`?[^.\n]*since bedtools refuses": "bedtools 2.30.0 takes merge -g",
     r"commented-out chromosome[^.|\n]*refused": "bedtools takes such a line for a chromosome",
     r"[Ee]ach (?:claim )?is proved": "the last of the ten claims is tested",
+    r"dunekettle-bedtools (?:merge|complement|intersect|subtract|genomecov|bamtobed|maskfasta)\b":
+        "what people type is dunekettle, with the command",
     r"(?<=\| )`no memory`[^\n]*none \|": "memory may run out in the middle",
 }
 OTHERS = ("man/*.1", "generated/**/*.*", "front/*", "packaging/control")
