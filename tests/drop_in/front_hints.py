@@ -2,6 +2,7 @@
 
 import json
 import os
+import pty
 import re
 import shutil
 import subprocess
@@ -153,6 +154,31 @@ def try_options(front, folder, count):
         said = call([front, command, option], folder, looking())[1].splitlines()[-1]
         count.expect(f"the hint of {command} {option}", True, said.startswith("dunekettle: ") and wanted in said)
     count.expect("options of options.tsv", True, len(rows) > 50)
+
+
+def at_terminal(words, folder):
+    """What a command says on a terminal that is its standard input too, at whose end it is at once."""
+    ours, theirs = pty.openpty()
+    os.write(ours, b"\x04")
+    with subprocess.Popen(words, cwd=folder, env=looking(), stdin=theirs, stdout=subprocess.DEVNULL, stderr=theirs) as child:
+        os.close(theirs)
+        said = b""
+        try:
+            while piece := os.read(ours, 1000):
+                said += piece
+        except OSError:  # Nobody has the terminal open.
+            pass
+    os.close(ours)
+    return said.decode(), child.returncode
+
+
+def try_terminal(place, folder, count):
+    """A command that waits for lines from the terminal says so, unless it can't be used, or reads nothing there."""
+    lines = (("merge", 0, True), ("bamtobed", 0, True), ("intersect -a - -b f.bed", 0, True), ("merge -i stdin", 0, True), ("merge -i f.bed", 0, False),
+             ("complement", 2, False), ("merge -c", 2, False), ("marge", 2, False), ("help", 0, False))
+    for line, status, waits in lines:
+        said, found = at_terminal([place / "bin" / "dunekettle", *line.split()], folder)
+        count.expect(f"at a terminal: {line}", (status, waits), (found, "waits for lines from the terminal" in said))
 
 
 def try_help(place, folder, count):
