@@ -32,9 +32,9 @@ PROGRAM := bin/$(if $(CPU),$(CPU)/)bedtools
 LOG := bin/build.log
 SOURCES := crates.txt $(shell find crates -name out -prune -o -type f \( -name '*.rt' -o -name '*.antt' \) -print)
 
-DOCS := README.md CHANGELOG.md LICENSE $(wildcard docs/*.md docs/*.svg) $(wildcard bench/*.md bench/*.svg) \
-	tests/differences/differences.tsv tests/drop_in/front_costs.tsv tests/drop_in/front_pipelines.tsv bench/odd.tsv bench/results.tsv \
-	CITATION.cff SECURITY.md packaging/copyright packaging/sbom.spdx.json
+# What is installed for people: not what was tried for speed, nor tables of all measurements.
+DOCS := README.md CHANGELOG.md LICENSE $(wildcard docs/*.md docs/*.svg) bench/README.md $(wildcard bench/*.svg) \
+	tests/differences/differences.tsv CITATION.cff SECURITY.md packaging/copyright packaging/sbom.spdx.json
 
 .PHONY: all built example test mutants definitions check-docs check-program check-speed check-differences check-front check-shards \
 	check-packages pictures completions install uninstall dist deb clean
@@ -144,9 +144,14 @@ completions:
 	tools/completions.py
 	tools/manuals.py
 
+# Whether make was called with -s.
+is_silent = $(findstring s,$(filter-out -%,$(firstword $(MAKEFLAGS))))
+
 # The manual pages and the completions get the program's name there.
 install: $(PROGRAM)
 	packaging/install.sh "$$DESTDIR$$PREFIX" "$$PREFIX" "$$NAME" $(PROGRAM) $(DOCS)
+	$(if $(is_silent),,@[ -n "$$DESTDIR" ] || printf '%s\n' "Installed: $$PREFIX/bin/dunekettle. The drop-in:" \
+	"    export PATH=\"$$PREFIX/lib/dunekettle/bin:\$$PATH\"")
 
 uninstall:
 	packaging/uninstall.sh "$$DESTDIR$$PREFIX" "$$NAME"

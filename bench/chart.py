@@ -70,7 +70,7 @@ def ticks(where, values, label, top, bottom):
 
 
 def draw_commands(kept, shown, caption):
-    """A row for each command: how many times less processor time it takes than bedtools, and the memory of both."""
+    """A row for each command: how many times faster it is than bedtools, by CPU time, and the memory of both."""
     rows = [next(row for row in kept["workloads"] if row["command"] == command and row["name"].endswith(f", {data}"))
             for command, data in shown.items()]
     first, step = 82, 38
@@ -79,8 +79,8 @@ def draw_commands(kept, shown, caption):
     most = 100 if max(ratios) <= 100 else 1000
     less = scale(1, most, 190, 465)
     memory = scale(1, 10_000, 590, 850)
-    parts = [text(190, 24, "times less processor time than bedtools", "title"), text(590, 24, "peak memory", "title"),
-             text(190, 40, "below: seconds of bedtools / Dunekettle", "note"),
+    parts = [text(190, 24, "times faster than bedtools (CPU time)", "title"), text(590, 24, "peak memory", "title"),
+             text(190, 40, "below the factor: CPU seconds of bedtools / Dunekettle", "note"),
              *ticks(less, [mark for mark in (1, 2, 5, 10, 20, 50, 100, 200, 500, 1000) if mark <= most], str, 66, bottom - 6),
              *ticks(memory, (1, 10, 100, 1000, 10_000), lambda value: f"{value} MB" if value < 1000 else f"{value // 1000} GB", 66, bottom - 6),
              '<circle class="ours" cx="715" cy="20" r="5"/>', text(724, 24, "Dunekettle"), '<circle class="theirs" cx="806" cy="20" r="5"/>', text(815, 24, "bedtools")]
@@ -110,7 +110,7 @@ def draw_growth(kept, caption):
     """A column for each command: time and memory of both programs by the number of records."""
     commands = list(kept["growth"])
     left, wide, gap = 70, 104, 14
-    parts = [text(16, 20, "processor time and peak memory, by the size of the input", "title"),
+    parts = [text(16, 20, "CPU time and peak memory, by the size of the input", "title"),
              '<circle class="ours" cx="560" cy="16" r="5"/>', text(569, 20, "Dunekettle"), '<circle class="theirs" cx="650" cy="16" r="5"/>', text(659, 20, "bedtools")]
     panels = ((64, 210, 0.01, 100, (0.01, 0.1, 1, 10, 100), lambda run: run["seconds"], lambda value: f"{value:g} s"),
               (260, 406, 1, 10_000, (1, 10, 100, 1000, 10_000), lambda run: run["kilobytes"] * 1024 / 1e6,
@@ -137,14 +137,14 @@ def draw_growth(kept, caption):
 
 
 def draw_pipelines(kept, caption):
-    """Three bars for each pipeline, on one linear scale of seconds by the clock: bedtools, the drop-in, rewritten."""
+    """Three bars for each pipeline, on one linear scale of wall-clock seconds: bedtools, the drop-in, rewritten."""
     forms = (("bedtools", "theirs", "bedtools", 330), ("drop-in", "both", "drop-in, unchanged", 430), ("rewritten", "ours", "rewritten", 595))
     most = max(seconds for row in kept["pipelines"] for seconds in row["seconds"].values())
     left, right, first, step = 330, 820, 62, 66
     step_of_ticks = next(mark for mark in (0.1, 0.2, 0.5, 1, 2, 5, 10, 20, 50, 100, 200, 500) if most / mark <= 6)
     values = [step_of_ticks * at for at in range(int(most / step_of_ticks) + 1)]
     bottom = first + step * len(kept["pipelines"])
-    parts = [text(16, 20, "whole pipelines, seconds by the clock", "title")]
+    parts = [text(16, 20, "whole pipelines, wall-clock seconds", "title")]
     for _, kind, label, at in forms:
         parts += [f'<rect class="{kind}" x="{at}" y="10" width="12" height="12" rx="2"/>', text(at + 17, 20, label)]
     parts += ticks(lambda value: left + (right - left) * value / most, values, lambda value: f"{value:g} s", first - 12, bottom - 10)

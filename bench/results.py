@@ -49,6 +49,13 @@ SHOWN = {
     "bamtobed": "alignments",
     "maskfasta": "many records",
 }
+# What the inputs of these have, where their names don't say it.
+NAMES = {
+    **dict.fromkeys(("intersect", "subtract"), (("records.bed", "reads.bed"), ("second.bed", "exons.bed"))),
+    "genomecov": (("records.bed", "reads.bed"),),
+    "bamtobed": (("records.bed", "reads.sam"),),
+    "maskfasta": (("records.bed", "sequences.fa"), ("second.bed", "records.bed")),
+}
 # What is reported beside the workloads that say so: other shapes, and what holds or waits for many records.
 ALSO = (
     "intersect -sorted -v, reads and exons", "intersect -sorted -c, reads and exons", "intersect -sorted -u, 2,000 in 10,000 nested",
@@ -196,8 +203,8 @@ def megabytes(kilobytes):
     return f"{digits(size / 1000)} GB" if size >= 995 else f"{digits(size)} MB"
 
 
-def times_less(row):
-    """How many times less processor time this program takes than bedtools."""
+def times_faster(row):
+    """How many times faster this program is than bedtools, by CPU time."""
     return row["runs"]["bedtools"]["seconds"] / row["runs"]["dunekettle"]["seconds"]
 
 
@@ -214,31 +221,60 @@ def caption(kept, about=""):
     """How the numbers were measured: what is said first, and then the runs, the machine and the commit."""
     trial = "**A trial on a busy machine, no result.** " if kept["is_trial"] else ""
     records = about or f"Up to {kept['records'] / 1e6:g} million records"
-    runs = "the least of several runs" if not kept["times"] else "one run" if kept["times"] == 1 else f"the least of {kept['times']} runs"
+    runs = "the fastest of several runs" if not kept["times"] else "one run" if kept["times"] == 1 else f"the fastest of {kept['times']} runs"
     note = f" {kept['note']}" if "note" in kept else ""
     others = f"bedtools {kept['bedtools']}, bedops {kept['bedops']}"
     return f"{trial}{records}, {runs}. {kept['machine']}; commit {kept['commit']}, {kept['date']}; {others}.{note}\n"
 
 
+def command_line(command):
+    """The command line of the workload that the chart shows, with files named for what they have."""
+    line = " ".join(["dunekettle", *compare.runs_of(shown(command), compare.NO_OTHERS, Path("."))[0].words[1:]])
+    for name, better in NAMES.get(command, ()):
+        line = line.replace(name, better)
+    return line
+
+
+# The reads of a human genome at 30x, of 150 bases each, in millions; how many of the bench's size are alignments; and by
+# how much `samtools view` and bamtobed together are faster than bamtobed of bedtools is on BAM.
+GENOME_READS = 600
+ALIGNED = 1.6
+WITH_SAMTOOLS = (1.5, 1.8)
+
+
+def whole_genome(kept):
+    """What a BAM file of a human genome at 30x would cost, by the rates that were measured."""
+    took = {row["command"]: row["runs"] for row in kept["workloads"] if row["name"].endswith((", alignments", ", reads at 30x"))}
+    theirs = took["bamtobed"]["bedtools"]["seconds"] / ALIGNED * GENOME_READS / 60
+    depths = took["genomecov"]["dunekettle"]["seconds"] / (kept["records"] / 1e6) * GENOME_READS / 60
+    low, high = (theirs / factor for factor in reversed(WITH_SAMTOOLS))
+    return (f"**A BAM file at 30x** has about {GENOME_READS} million reads of a human genome. By the rates measured here, `samtools view` and `bamtobed` "
+            f"take {low:.0f} to {high:.0f} minutes of CPU time for it, where `bedtools bamtobed` takes {theirs:.0f}; `dunekettle genomecov -bg` of its reads takes "
+            f"{depths:.0f} minute{'' if round(depths) == 1 else 's'} more. This is extrapolated, not measured.\n")
+
+
 def summary(kept):
-    """The items of README.md on all workloads."""
-    factors = [times_less(row) for row in kept["workloads"] if row["command"] in SHOWN]
+    """What README.md says of all workloads: the command lines of the chart, three sentences, and a whole genome."""
+    factors = [times_faster(row) for row in kept["workloads"] if row["command"] in SHOWN]
     half = digits(statistics.median_low(factors))
-    on_text = digits(next(times_less(row) for row in kept["workloads"] if row["command"] == "bamtobed"))
-    return (f"- [By command](bench/README.md#results): {spread(factors, digits)} times less processor time than bedtools {kept['bedtools']}, "
-            f"over {len(factors)} workloads. For half of them it is at least {half}. [What is slow](bench/README.md#what-is-slow-and-why).\n"
-            f"- `bamtobed` takes {on_text} times less for SAM text than bedtools for BAM. With `samtools view` before it, the two take 1.5 to 1.8 times less.\n")
+    on_text = digits(next(times_faster(row) for row in kept["workloads"] if row["command"] == "bamtobed"))
+    lines = "".join(f"    {command_line(command)}\n" for command in SHOWN)
+    return (f"The bars are these calls, on up to {kept['records'] / 1e6:g} million records:\n\n{lines}\n"
+            f"Over [{len(factors)} workloads](bench/README.md#results) Dunekettle is {spread(factors, digits)} times faster than bedtools {kept['bedtools']} "
+            f"(CPU time), in half of them at least {half} times. `bamtobed` is {on_text} times faster on SAM text than bedtools on BAM; with `samtools view` "
+            f"before it, the two together are {WITH_SAMTOOLS[0]} to {WITH_SAMTOOLS[1]} times faster. [Some inputs are slow](bench/README.md#what-is-slow-and-why).\n\n"
+            f"{whole_genome(kept)}\n")
 
 
 def by_command(kept):
-    """The table of bench/README.md by command: how much less each takes, and below it what other programs than bedtools take."""
-    lines = ["| command | times less processor time | such as | seconds | of bedtools | memory | of bedtools |\n|" + "---|" * 7 + "\n"]
+    """The table of bench/README.md by command: how much faster each is, and below it what other programs than bedtools take."""
+    lines = ["| command | times faster | for example | CPU seconds | bedtools | memory | bedtools |\n|" + "---|" * 7 + "\n"]
     for command in SHOWN:
         rows = [row for row in kept["workloads"] if row["command"] == command]
         ours, theirs = ([row["runs"][program]["kilobytes"] for row in rows] for program in ("dunekettle", "bedtools"))
         example = next(row for row in rows if row["name"] == shown(command).name())
         took = " | ".join(digits(example["runs"][program]["seconds"]) for program in ("dunekettle", "bedtools"))
-        lines.append(f"| `{command}` | {spread([times_less(row) for row in rows], digits)} | {SHOWN[command]} | {took} "
+        lines.append(f"| `{command}` | {spread([times_faster(row) for row in rows], digits)} | {SHOWN[command]} | {took} "
                      f"| {spread(ours, megabytes)} | {spread(theirs, megabytes)} |\n")
     plain = [f"A [plain C program](plain_merge.c) that does nothing but {row['name']} takes {digits(row['runs']['plain C']['seconds'])} s.\n"
              for row in kept["workloads"] if "plain C" in row["runs"]]
@@ -248,10 +284,10 @@ def by_command(kept):
 
 def result_rows(kept):
     """The file of all workloads."""
-    rows = [["workload", "Dunekettle, s", "bedtools, s", "times less than bedtools", "MB", "MB of bedtools"]]
+    rows = [["workload", "Dunekettle, s", "bedtools, s", "times faster", "MB", "MB of bedtools"]]
     for row in kept["workloads"]:
         runs = [row["runs"][program] for program in ("dunekettle", "bedtools")]
-        rows.append([row["name"], *(digits(run["seconds"]) for run in runs), digits(times_less(row)),
+        rows.append([row["name"], *(digits(run["seconds"]) for run in runs), digits(times_faster(row)),
                      *(digits(run["kilobytes"] * 1024 / 1e6) for run in runs)])
     return "".join("\t".join(cells) + "\n" for cells in rows)
 
@@ -276,7 +312,7 @@ def growth(kept):
 def pipeline_caption(measured):
     """How whole pipelines were measured."""
     trial = "**A trial on a busy machine, no result.** " if measured["is_trial"] else ""
-    return (f"{trial}Seconds by the clock, over {measured['reads'] / 1e6:g} million reads and what goes with them, the least of {measured['times']} runs. "
+    return (f"{trial}Wall-clock seconds, over {measured['reads'] / 1e6:g} million reads and the other inputs, the fastest of {measured['times']} runs. "
             f"{measured['machine']}; commit {measured['commit']}, {measured['date']}.\n")
 
 
@@ -285,15 +321,15 @@ def pipelines(_):
     if not PIPELINES.exists():
         return "Whole pipelines are measured by `bench/pipelines.py --results`; there is no result of this commit yet.\n"
     measured = json.loads(PIPELINES.read_text(encoding="utf-8"))
-    lines = ["| pipeline, seconds by the clock | bedtools | drop-in, unchanged | calls it took | [rewritten](bench/pipelines) |\n|---|---|---|---|---|\n"]
+    lines = ["| pipeline, wall-clock seconds | bedtools | drop-in, unchanged | calls it took | [rewritten](pipelines) |\n|---|---|---|---|---|\n"]
     for row in measured["pipelines"]:
         theirs, front, ours = (digits(row["seconds"][form]) for form in ("bedtools", "drop-in", "rewritten"))
         lines.append(f"| {row['what']} | {theirs} | {front} | {row['taken']} of {row['calls']} | {ours} |\n")
-    return "".join(lines) + "\n![whole pipelines: bedtools, the drop-in, rewritten](bench/pipelines.svg)\n\n" + pipeline_caption(measured)
+    return "".join(lines) + "\n![whole pipelines: bedtools, the drop-in, rewritten](pipelines.svg)\n\n" + pipeline_caption(measured)
 
 
 def ratio(row):
-    """The part of bedtools' processor time that this program takes."""
+    """The part of bedtools' CPU time that this program takes."""
     return row["runs"]["dunekettle"]["seconds"] / row["runs"]["bedtools"]["seconds"]
 
 
@@ -309,7 +345,7 @@ def odd_inputs(kept):
     if not kept:
         return "Odd inputs weren't measured yet.\n"
     rows = list(by_ratio(kept))
-    lines = ["| workload | Dunekettle, s | bedtools, s | of bedtools' time | MB | of bedtools |\n|" + "---|" * 6 + "\n"]
+    lines = ["| workload | Dunekettle, s | bedtools, s | part of bedtools' time | MB | bedtools, MB |\n|" + "---|" * 6 + "\n"]
     lines += [f"| {' | '.join(cells)} |\n" for cells in rows[:WORST]]
     if len(rows) > WORST:
         lines.append(f"| [{len(rows) - WORST} others]({ODD_ROWS.name}) | | | at most {rows[WORST][3]} | | |\n")
@@ -319,7 +355,7 @@ def odd_inputs(kept):
 
 def odd_rows(kept):
     """The file of all odd inputs."""
-    head = ["workload", "Dunekettle, s", "bedtools, s", "of bedtools' time", "MB", "MB of bedtools"]
+    head = ["workload", "Dunekettle, s", "bedtools, s", "part of bedtools' time", "MB", "MB of bedtools"]
     return "".join("\t".join(cells) + "\n" for cells in (head, *by_ratio(kept)))
 
 
@@ -327,7 +363,7 @@ def odd_rows(kept):
 def odd_caption(kept):
     """How the odd inputs were measured."""
     trial = "**A trial on a busy machine, no result.** " if kept["is_trial"] else ""
-    return f"{trial}The least of three runs or five. {kept['machine']}; commit {kept['commit']}, {kept['date']}; bedtools {kept['bedtools']}.\n"
+    return f"{trial}CPU time, the fastest of three or five runs. {kept['machine']}; commit {kept['commit']}, {kept['date']}; bedtools {kept['bedtools']}.\n"
 
 
 def odd_claim(kept):
@@ -338,8 +374,8 @@ def odd_claim(kept):
     slower = sum(part > 1 for part in ratios)
     on = f"{len(ratios)} workloads of [odd inputs](bench/README.md#odd-inputs)"
     if slower:
-        return f"- Slower than bedtools on {slower} of {on}, by at most {digits(max(ratios))} times its processor time.\n"
-    return f"- Never slower than bedtools on {on}: at most {digits(max(ratios))} of its processor time.\n"
+        return f"On {slower} of {on} it is slower than bedtools, and takes at most {digits(max(ratios))} times its CPU time.\n"
+    return f"On {on} it is never slower than bedtools: it takes at most {digits(max(ratios))} of its CPU time.\n"
 
 
 TABLES = {"summary": summary, "by_command": by_command, "growth": growth, "pipelines": pipelines}

@@ -109,6 +109,8 @@ function report_words() {
     print clean(ENVIRON["file"]) (line == "" ? ":" : ": " line)
     if (ENVIRON["fault"] != "") print "  can't be taken: " clean(ENVIRON["fault"])
     if (ENVIRON["pipe"] != "") print "  " clean(ENVIRON["pipe"])
+    if (ENVIRON["fault"] != "" && ENVIRON["genome"] == "" && (order == "numbers" || order == "together"))
+        print "  or keep this order: give the commands a genome file in it, by -g"
 }
 
 # A text in one line, without bytes that change a terminal

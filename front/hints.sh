@@ -13,7 +13,7 @@ advise() { say "$(printf '%s' "$1" | clean | tr '\n' '?')"; }
 # quoted WORD: as a word of a shell; FILE if it has bytes that a terminal doesn't show
 quoted() {
     case $1 in
-    '' | *[!A-Za-z0-9._/+-]*)
+    '' | *[!A-Za-z0-9._/+,-]*)
         if [ "$(printf '%s.' "$1" | clean)" != "$1." ] || [ "${1#*"$dk_nl"}" != "$1" ]; then echo FILE; return; fi
         printf "'%s'\n" "$(printf '%s' "$1" | sed "s/'/'\\\\''/g")"
         ;;
@@ -23,6 +23,14 @@ quoted() {
 
 # quoted_name FILE: the same of a name, which no tool takes for an option or, as awk does, for an assignment
 quoted_name() { case $1 in /*) quoted "$1" ;; -* | *=*) quoted "./$1" ;; *) quoted "$1" ;; esac; }
+
+# installed PLACE OTHER: that place in the installation, or else the other, where it is in the repository
+installed() {
+    root=$(CDPATH='' cd -P -- "$files/../.." 2> /dev/null && pwd)
+    if [ -n "$root" ] && [ -e "$root/$1" ]; then printf '%s\n' "$root/$1"; else printf '%s\n' "$2"; fi
+}
+page() { installed "share/doc/$dk_name/docs/$1" "docs/$1"; }
+recipe() { installed "share/dunekettle/recipes/$1" "recipes/$1"; }
 
 # kind_of FILE: what its first bytes say, and if it is text its first lines
 kind_of() {
@@ -87,6 +95,28 @@ hint() {
     esac
 }
 
+# hint_wait COMMAND WORD..: says that standard input, a terminal, is read, if these words can be used and read it
+hint_wait() {
+    dk_command=$1 dk_why=''
+    shift
+    # shellcheck source=words.sh source-path=SCRIPTDIR
+    . "$files/words.sh"
+    read_options "$@"
+    reads_terminal || return 0
+    try_words "$@"
+    [ -n "$dk_why" ] ||
+        say "$dk_command waits for lines from the terminal. Ctrl-D ends them. See dunekettle help $dk_command"
+}
+
+# reads_terminal: whether the options of a command have it read standard input
+reads_terminal() {
+    for word in "$dk_a" "$dk_b" "$dk_fi" "$dk_bed" "$dk_g"; do case $word in - | stdin) return 0 ;; esac; done
+    case $dk_command$dk_i in
+    merge- | complement- | genomecov- | bamtobed- | mergestdin | complementstdin | genomecovstdin | bamtobedstdin) ;;
+    *) return 1 ;;
+    esac
+}
+
 hint_unopened() {
     if [ "$file" = "$dk_fo" ]; then advise "$file can't be made, or it is an input under another name"
     elif [ ! -e "$file" ]; then advise "$file isn't there"
@@ -137,6 +167,10 @@ hint_kind() {
         return
     fi
     kind=$(kind_of "$file")
+    if [ "$dk_command$kind" = bamtobedBED ]; then
+        advise "$file is BED, not SAM text: bamtobed makes BED of alignments"
+        return
+    fi
     pipe=$(pipe_for "$kind" "$file")
     case $pipe$text in
     'start is not below end') hint_ends ;;

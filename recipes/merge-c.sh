@@ -9,16 +9,17 @@ here=$(readlink -f -- "${BASH_SOURCE[0]}") || exit 2
 begin "$@" || exit 2
 read_words '-i: -c: -o: -d: -delim: -prec:' "$@"
 twice "$opt_i"
+# An operation that isn't one ends it before anything is run, whose messages would come too.
+for operation in ${opt_o//,/ }; do
+    [[ $operation =~ ^(count|sum|mean|min|max|collapse|distinct|count_distinct)$ ]] || fail "not supported: $operation"
+done
 bt merge -i "$opt_i" ${opt_d:+-d "$opt_d"} | bt intersect -a - -b "$opt_i" -wa -wb |
     delim=${opt_delim:-,} awk -F'\t' -v columns="$opt_c" -v operations="$opt_o" -v prec="${opt_prec:-10}" '
     BEGIN { delim = ENVIRON["delim"]; wanted = split(columns, column, ","); given = split(operations, operation, ",")
         for (i = given + 1; i <= wanted; i++) operation[i] = operation[given]
         for (i = wanted + 1; i <= given; i++) column[i] = column[wanted]
         if (given > wanted) wanted = given
-        for (i = 1; i <= wanted; i++) {
-            if (operation[i] !~ /^(count|sum|mean|min|max|collapse|distinct|count_distinct)$/) {
-                print "merge-c.sh: not supported: " operation[i] > "/dev/stderr"; failed = 1; exit 2 }
-            is_number[i] = operation[i] ~ /^(sum|mean|min|max)$/ } }
+        for (i = 1; i <= wanted; i++) is_number[i] = operation[i] ~ /^(sum|mean|min|max)$/ }
     function number(x) { return sprintf("%." prec "g", x) }
     function value(i) {
         if (operation[i] == "count") return n

@@ -25,13 +25,14 @@ CHECK = [("-g", "GENOME", "", "the order of the chromosomes"), ("--json", "", ""
 CHECK_END = ("--", "", "", "all that follows is a file, also if it begins with a dash")
 VARIABLES = {
     "DUNEKETTLE_HINTS=0": "dunekettle gives no hints, and becomes the program",
-    "DUNEKETTLE_TELL=1": "the drop-in says which program takes a command line, and why; a path instead of 1 is a file"
-                         " for it, which report reads",
-    "DUNEKETTLE_ALWAYS=1": "the drop-in never asks the original",
-    "DUNEKETTLE_STREAMS=1": "the drop-in takes standard input and pipes as sorted BED without odd lines",
+    "DUNEKETTLE_TELL=1": "the drop-in says which program runs a call, and why; a path instead of 1 names a file for it,"
+                         " which report reads",
+    "DUNEKETTLE_ALWAYS=1": "the drop-in never runs your bedtools",
+    "DUNEKETTLE_STREAMS=1": "the drop-in takes standard input and pipes for sorted BED, without lines that bedtools"
+                            " treats differently",
     "DUNEKETTLE_ROOM=0": "the drop-in copies no stream; a number of bytes instead of 0 is how much of one it copies",
-    "DUNEKETTLE_SMALL=0": "the drop-in looks at the smallest inputs too; a number of bytes instead of 0 is from where"
-                          " on",
+    "DUNEKETTLE_SMALL=0": "the drop-in looks at the smallest inputs too; a number of bytes instead of 0 is from which"
+                          " size on",
 }
 WIDTH = 80
 # A table of options in COMMANDS.md, and what that page says once, above all of them.
@@ -63,7 +64,7 @@ def sections(commands):
 
 def synopsis(command, section):
     """How a command is called, in one line without the program's name: the first block of its part of COMMANDS.md."""
-    lines = re.search(rf"^    {NAME} ({command} .*(?:\n {{5,}}\S.*)*)$", section, re.MULTILINE)[1]
+    lines = re.search(rf"^    {FRONT} ({command} .*(?:\n {{5,}}\S.*)*)$", section, re.MULTILINE)[1]
     return " ".join(lines.split())
 
 

@@ -36,7 +36,6 @@ def words(text):
             made += escaped(part.strip("`")) if is_bold else f"\\fB{escaped(part.strip('`'))}\\fP"
         else:
             made += part.replace("\\", "\\e")
-    made = made.replace("dunekettle\\-bedtools", "dunekettle")
     return f"\\&{made}" if made.startswith((".", "'")) else made
 
 
@@ -59,9 +58,8 @@ def missing(block, made):
 
 
 def example(block):
-    """A block of commands and what they write, with the name of the front."""
-    lines = [line[4:].replace(NAME, "dunekettle") for line in block]
-    return [".Bd -literal -offset indent", *(escaped(line) for line in lines), ".Ed"]
+    """A block of commands and what they write."""
+    return [".Bd -literal -offset indent", *(escaped(line[4:]) for line in block), ".Ed"]
 
 
 def blocks_of(section):

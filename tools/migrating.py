@@ -5,7 +5,7 @@ options that aren't taken.
     tools/migrating.py           writes them
     tools/migrating.py merge     prints all that the tables have of a command, or of `every`
 
-The page has the options, the silent differences, and the names of the others. Columns are separated by tabs.
+The page has the options, and a table for each kind of difference. Columns are separated by tabs.
 differences.tsv has the command (`every` for all), the difference, what bedtools 2.30.0 and Dunekettle do, the kind, who
 takes such a command line of the drop-in, and what to do. options.tsv has the command, its options, whether Dunekettle
 takes them, and what to write. An option that is taken says `same`, and no other does. Each script that a row names is
@@ -23,7 +23,8 @@ DIFFERENCES, OPTIONS = "tests/differences/differences.tsv", "tests/differences/o
 SCRIPTS = TOP / "recipes"
 # The hints of `dunekettle` on options that aren't taken.
 INSTEAD = "generated/instead.txt"
-KINDS = ("silent", "error", "cosmetic")
+# The kinds of differences, each with the head of its table.
+HEADS = {"silent": "silent difference", "error": "difference with an error", "cosmetic": "cosmetic difference"}
 TAKERS = ("bedtools", "Dunekettle", "either")
 # A list of the page: its command, and what is between the two marks.
 MARKS = re.compile(r"(<!-- tools/migrating.py: (\w+) -->\n).*?(<!-- it ends here -->)", re.DOTALL)
@@ -71,22 +72,17 @@ def options_of(command):
     return "".join(lines)
 
 
-def starred(name, taker):
-    """The name of a difference, with a star if Dunekettle takes it with the drop-in, in parentheses if some of it."""
-    return name + {"bedtools": "", "Dunekettle": " \\*", "either": " (\\*)"}[taker]
-
-
 def differences_of(command):
-    """The table of a command's silent differences, and the names of the others."""
-    found = [row for row in differences() if row.command == command]
-    lines = [f"| {starred(row.name, row.taker)} | {row.theirs} | {row.ours} | {row.advice} |\n"
-             for row in found if row.kind == "silent"]
-    head = "| silent difference | bedtools 2.30.0 | Dunekettle | what to do |\n|---|---|---|---|\n"
-    lines = [head, *lines] if lines else []
-    for kind, head in (("error", "Errors"), ("cosmetic", "Cosmetic")):
-        names = [f"- {starred(row.name, row.taker)}\n" for row in found if row.kind == kind]
-        lines += [f"\n{head}:\n\n", *names] if names else []
-    return "".join(lines).lstrip("\n")
+    """The tables of a command's differences, one for each kind."""
+    tables = []
+    for kind, head in HEADS.items():
+        found = [row for row in differences() if (row.command, row.kind) == (command, kind)]
+        lines = [f"| {head} | bedtools 2.30.0 | Dunekettle | drop-in | what to do |\n|---|---|---|---|---|\n"]
+        for row in found:
+            cells = (row.name, row.theirs, row.ours, "by file" if row.taker == "either" else row.taker, row.advice)
+            lines.append(f"| {' | '.join(cells)} |\n".replace("|  |", "| |"))
+        tables += ["".join(lines)] if found else []
+    return "\n".join(tables)
 
 
 def print_all(command):
@@ -102,11 +98,12 @@ def print_all(command):
 
 
 def hint_of(advice):
-    """What a hint says instead of an option: the scripts that replace it, or to leave it out, or nothing."""
+    """What a hint says instead of an option: the scripts that replace it, or to leave it out, or nothing; and the options
+    of which the scripts need one."""
     scripts = [] if advice.startswith("none") else re.findall(r"`([\w-]+\.sh)`", advice)
-    if scripts:
-        return f"docs/RECIPES.md, {' or '.join(dict.fromkeys(scripts))}"
-    return advice if advice.startswith("leave") else ""
+    needed = re.search(r"(?:for|beside) (.*); else none$", advice)
+    words = " ".join(re.findall(r"`(-\w+)`", needed[1])) if needed else ""
+    return f"{' '.join(dict.fromkeys(scripts)) or (advice if advice.startswith('leave') else '')}\t{words}"
 
 
 def instead():
@@ -115,7 +112,7 @@ def instead():
         for word in row.words if row.taken == "no" else ():
             if word.startswith("-"):
                 yield f"{row.command}\t{word}\t{hint_of(row.advice)}\n"
-    yield "intersect\tseveral -b\tdocs/RECIPES.md, intersect-files.sh\n"
+    yield "intersect\tseveral -b\tintersect-files.sh\t-u -v -c -C -wb\n"
 
 
 def listed(command):
@@ -127,7 +124,7 @@ def listed(command):
 def amiss():
     """What is wrong with the rows themselves, or lacks on the page."""
     for row in differences():
-        if row.kind not in KINDS or row.taker not in TAKERS:
+        if row.kind not in HEADS or row.taker not in TAKERS:
             yield f"differences.tsv: {row.name}: there is no such kind, or no such program"
     for row in options():
         if (row.taken == "yes") != row.advice.startswith("same"):

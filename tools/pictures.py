@@ -113,7 +113,7 @@ def draw_crates():
 LEGEND = (("proved", "proved, for all words and all bytes"), ("tested", "tested: the program hands over bytes"),
           ("box", "trusted: the system"))
 PROMISES = ("If nothing fails, output, message and status are those of a written definition.",
-            "If a read, a write or memory fails, what was written begins the right output.")
+            "If a read, a write or memory fails, what was written is a prefix of the correct output.")
 # The boxes of a run: left, top, width, text, kind and height.
 BOXES = (
     (20, 45, 130, ["words", "of the command line"]),

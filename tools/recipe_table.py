@@ -13,9 +13,9 @@ from files import read, rows, write
 PAGE, NEEDS, COSTS = "docs/RECIPES.md", "tests/recipes/needs.tsv", "bench/recipes.tsv"
 # The table, between two marks.
 MARKS = re.compile(r"(<!-- tools/recipe_table.py writes this table -->\n).*?(<!-- it ends here -->)", re.DOTALL)
-HEAD = "| instead of | script | seconds of bedtools, of the script | what to know |\n|---|---|---|---|\n"
-ABOUT = ("\nProcessor time with `samtools`, `awk` and `sort`, over {}; the least of 3 runs. "
-         "{} of {} scripts are slower.\n")
+HEAD = "| instead of | script | CPU seconds: bedtools, script | what to know |\n|---|---|---|---|\n"
+ABOUT = ("\nCPU time, with that of `samtools`, `awk` and `sort`, over {}; the fastest of 3 runs. "
+         "{} of {} scripts are slower than bedtools.\n")
 
 
 def cost_of(costs, script):

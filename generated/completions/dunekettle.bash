@@ -4,10 +4,10 @@ _dunekettle() {
     COMPREPLY=()
     if ((COMP_CWORD == 1)); then
         lines=(
-            'merge  (joins features that overlap or touch, and writes chromosome, start and end of each)'
+            'merge  (joins features that overlap or touch, and writes the chromosome, start and end of each interval)'
             'complement  (writes the parts of each chromosome that no feature covers)'
-            'intersect  (compares each feature A of -a with all features B of -b)'
-            'subtract  (writes what is left of each feature A of -a without the bases of the features B of -b that hit it)'
+            'intersect  (finds the features B of -b that overlap each feature A of -a)'
+            'subtract  (removes from each feature A of -a the bases of the features B of -b that overlap it)'
             'genomecov  (writes how many features cover each base, as intervals of one depth)'
             'bamtobed  (writes each alignment of SAM text as a BED line)'
             'maskfasta  (writes the lines of a FASTA file, with N instead of each base that a record of the BED file covers)'
@@ -26,46 +26,46 @@ _dunekettle() {
         merge:*) lines=(
             '-i  (the features)'
             '-g  (the chromosomes in their order)'
-            '-d  (joins features up to N bases apart too)'
-            '-S  (merges the features of this strand alone, by the sixth column)'
+            '-d  (also joins features that are up to N bases apart)'
+            '-S  (merges only the features on this strand, by the sixth column)'
             '-s  (merges the features of each strand separately)'
         ) ;;
         complement:*) lines=(
             '-i  (the features)'
             '-g  (the chromosomes, their lengths and their order)'
-            '-L  (leaves out the chromosomes that have no feature)'
+            '-L  (leaves out chromosomes that have no feature)'
         ) ;;
         intersect:*) lines=(
             '-a  (the features A)'
             '-b  (the features B)'
             '-g  (the chromosomes in their order)'
-            '-wa  (for each hit A as it is, instead of the shared part)'
-            '-wb  (for each hit the shared part of A, then B)'
-            '-wo  (for each hit A, B and the number of bases that they share)'
-            '-u  (A once, if anything hits it)'
-            '-v  (A, if nothing hits it)'
-            '-c  (A and the number of its hits, which may be 0)'
+            '-wa  (writes the complete A for each hit, instead of the shared part)'
+            '-wb  (writes B after the shared part of A for each hit)'
+            '-wo  (writes the complete A, then B and the number of bases that they share, for each hit)'
+            '-u  (writes A once if it has a hit)'
+            '-v  (writes A if it has no hit)'
+            '-c  (writes A and the number of its hits, which may be 0)'
             '-f  (a hit shares at least the fraction F of the bases of A)'
-            '-r  (requires the fraction of -f of the bases of B too)'
-            '-s  (a hit has the strand of A)'
+            '-r  (a hit also shares the fraction of -f of the bases of B)'
+            '-s  (a hit is on the strand of A)'
             '-sorted  (accepted, and changes nothing)'
-            '-held  (ends the run if more than N features B would be kept in memory)'
+            '-held  (ends the run if it would keep more than N features B in memory)'
         ) ;;
         subtract:*) lines=(
             '-a  (the features A)'
             '-b  (the features B)'
             '-g  (the chromosomes in their order)'
-            '-A  (leaves out each A that anything hits, whole)'
+            '-A  (leaves out each A that has a hit, completely)'
             '-f  (a hit shares at least the fraction F of the bases of A)'
-            '-s  (a hit has the strand of A)'
-            '-held  (ends the run if more than N features B would be kept in memory)'
+            '-s  (a hit is on the strand of A)'
+            '-held  (ends the run if it would keep more than N features B in memory)'
         ) ;;
         genomecov:*) lines=(
             '-i  (the features)'
             '-g  (the chromosomes, their lengths and their order)'
-            '-bg  (the intervals of a depth above 0)'
-            '-bga  (all intervals, those of depth 0 too)'
-            '-strand  (counts the features of this strand alone, by the sixth column)'
+            '-bg  (writes the intervals with a depth above 0)'
+            '-bga  (writes all intervals, also those with depth 0)'
+            '-strand  (counts only the features on this strand, by the sixth column)'
         ) ;;
         bamtobed:*) lines=(
             '-i  (the SAM text)'
@@ -76,8 +76,8 @@ _dunekettle() {
             '-fi  (the sequences)'
             '-bed  (the records that mask them, in the order of the sequences)'
             '-fo  (the file to write to, which is made or emptied)'
-            '-soft  (lower case instead of N, and any byte but A to Z as it was)'
-            '-mc  (the character C instead of N)'
+            '-soft  (writes lower case instead of N, and any byte except A to Z as it was)'
+            '-mc  (writes the character C instead of N)'
             '-fullHeader  (takes the whole header after > as the sequence'\''s name, with its spaces)'
         ) ;;
         check:*) lines=(

@@ -138,9 +138,9 @@ def summary(rows):
     """What all rows come to."""
     calls, taken, small, quick, plain, fronted = sums(rows)
     return (f"{len(rows)} pipelines: of {calls} calls of the seven commands Dunekettle took {taken} ({100 * taken / max(calls, 1):.0f} percent); "
-            f"{plain:.0f} seconds of processor became {fronted:.0f} ({100 * fronted / max(plain, 0.01):.0f} percent). "
-            f"Of the other {calls - taken}, {small} are too small for a look to pay. In bedtools {quick} are as quick at any size. "
-            f"The last {calls - taken - small - quick} have options or files that Dunekettle doesn't take")
+            f"{plain:.0f} seconds of CPU time became {fronted:.0f} ({100 * fronted / max(plain, 0.01):.0f} percent). "
+            f"Of the other {calls - taken}, {small} have inputs too small for a check to be worth it, {quick} are as quick in bedtools at any size, "
+            f"and {calls - taken - small - quick} have options or files that Dunekettle doesn't take")
 
 
 def goals_missed(rows):
@@ -167,8 +167,8 @@ def write_table(rows):
     page.write_text(TABLE.sub(lambda found: found[1] + "\n".join(["", *lines, "", ""]) + found[2], text), encoding="utf-8")
     first = TOP / "README.md"
     calls, taken, _, _, before, after = sums(rows)
-    gain = (f"- **With the drop-in**, [{len(rows)} pipelines](docs/MIGRATING.md#what-was-tried) as they are took {after:.0f} seconds of processor instead of "
-            f"{before:.0f}. It gave {taken} of {calls} calls to Dunekettle.\n")
+    gain = (f"**With the drop-in**, [{len(rows)} pipelines](docs/MIGRATING.md#what-was-tried) took {after:.0f} seconds of CPU time instead of {before:.0f}, "
+            f"without a change. Dunekettle ran {taken} of their {calls} calls.\n")
     first.write_text(GAIN.sub(lambda found: found[1] + gain + found[2], first.read_text(encoding="utf-8")), encoding="utf-8")
 
 

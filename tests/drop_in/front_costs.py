@@ -24,7 +24,7 @@ from front_tools import TOLD, TOP, drop_in, environment, install, original
 
 # The table of MIGRATING.md.
 TABLE = re.compile(r"(<!-- a script writes: costs -->\n).*?(<!-- it ends here -->)", re.DOTALL)
-COLUMNS = ("call", "taken by", "bedtools, processor", "drop-in", "bedtools, clock", "drop-in")
+COLUMNS = ("call", "run by", "bedtools, CPU s", "drop-in, CPU s", "bedtools, wall-clock s", "drop-in, wall-clock s")
 # The file of all rows, and the calls whose rows are on the page.
 ROWS = Path(__file__).resolve().parent / "front_costs.tsv"
 SHOWN = """

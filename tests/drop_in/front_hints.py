@@ -2,6 +2,7 @@
 
 import json
 import os
+import pty
 import re
 import shutil
 import subprocess
@@ -52,7 +53,7 @@ HINTS = [
     ("merge -i short.bed", "short.bed:2: too few columns", "line 2 is: chr1 5"),
     ("merge -i no_base.bed", "no_base.bed:1: start is not below end", "left out by awk -F'\\t' '$2 + 0 != $3 + 0' no_base.bed"),
     ("maskfasta -fi s.fa -bed unsorted.bed", "unsorted.bed:2: record is out of order", "is that of the sequences: samtools faidx s.fa; awk"),
-    ("bamtobed -i f.bed", "f.bed:1: too few columns", "line 1 is: chr1 2 6"),
+    ("bamtobed -i f.bed", "f.bed:1: too few columns", "f.bed is BED, not SAM text"),
     ("merge -i names.bed", "names.bed:1: start is not a number", "its first line names the columns: tail -n +2"),
     ("merge -i bare.bed -g g.txt", "bare.bed:1: chromosome is not in the genome file", "in g.txt 1 is there as chr1"),
     ("merge -i none.bed", "none.bed: cannot be opened", "none.bed isn't there"),
@@ -69,7 +70,7 @@ HINTS = [
     ("intersect -a f.bed", None, "intersect needs -b FILE"),
     ("subtract", None, "subtract needs -a FILE, and -b FILE"),
     ("complement -i f.bed", None, "complement needs -g GENOME"),
-    ("genomecov -i f.bed -g g.txt", None, 'genomecov needs -bg or -bga (the histogram: docs/RECIPES.md, histogram.sh)'),
+    ("genomecov -i f.bed -g g.txt", None, "genomecov needs -bg or -bga (for the histogram there is histogram.sh: docs/RECIPES.md)"),
     ("genomecov", None, "genomecov needs -g GENOME, and -bg or -bga"),
     ("maskfasta -fi s.fa", None, "maskfasta needs -bed BED"),
     ("intersect -a f.bed -b f.bed -u -v", None, "leave out one of -u, -v"),
@@ -86,20 +87,25 @@ HINTS = [
     ("maskfasta s.fa f.bed", None, "write -fi s.fa"),
     ("merge -i f.bed f2.bed", None, "-i takes one file"),
     ("merge none.bed", None, "usage: dunekettle merge"),
-    ("intersect -a f.bed -b f.bed f2.bed", None, "intersect has no several -b: docs/RECIPES.md, intersect-files.sh, does it; or bedtools"),
+    ("intersect -a f.bed -b f.bed f2.bed", None, "-b takes one file: intersect-files.sh (docs/RECIPES.md) takes several with -u, -v, -c, -C or -wa -wb; or bedtools"),
     ("subtract -a f.bed -b f.bed f2.bed", None, "-b takes one file"),
     ("merge -i f.bed -d x", None, "-d takes 0 to 999999999999"),
-    ("merge -i f.bed -d -3", None, "docs/RECIPES.md, merge-overlap.sh"),
+    ("merge -i f.bed -d -3", None, "for features that share at least 3 bases write: recipes/merge-overlap.sh 3 f.bed"),
+    ("merge -i f.bed -d 5kb", None, "-d takes 0 to 999999999999, a number of bases in digits"),
     ("intersect -a f.bed -b f.bed -f 1.5", None, "-f takes a fraction from 0 to 1, with nine decimals at most, as 0.5"),
     ("subtract -a f.bed -b f.bed -held x", None, "-held takes 0 to 999999999999"),
     ("genomecov -strand x -bg -i f.bed -g g.txt", None, "-strand takes + or -"),
     ("maskfasta -fi s.fa -bed f.bed -mc xy", None, "-mc takes one printable ASCII character"),
     ("merge -i", None, "usage: dunekettle merge"),
     ("merge -x", None, "usage: dunekettle merge"),
-    ("marge", None, "see dunekettle --help"),
+    ("marge", None, "marge is no command: did you mean merge? For all of them see dunekettle --help"),
+    ("intersetc -a f.bed", None, "did you mean intersect?"),
+    ("intersect -a f.bed -b f.bed -f 0.5 -e", None, "intersect-F.sh (docs/RECIPES.md) does it with -F; or bedtools"),
+    ("intersect -a f.bed -b f.bed -split -wo", None, "intersect-split.sh (docs/RECIPES.md) does it with -u or -v; or bedtools"),
+    ("intersect -a f.bed -b f.bed -S", None, "opposite-strand.sh or intersect-opposite.sh (docs/RECIPES.md) does it; or bedtools"),
     ("version", None, "the commands: see dunekettle --help"),
     ("sort -i f.bed", None, "LC_ALL=C sort -k1,1 -k2,2n FILE"),
-    ("closest -a f.bed -b f.bed", None, "closest is a command of bedtools alone; the drop-in"),
+    ("closest -a f.bed -b f.bed", None, "only bedtools has closest; the drop-in"),
 ]
 
 
@@ -144,10 +150,35 @@ def try_options(front, folder, count):
     """Each option that options.tsv has as not taken has as its hint the script of its row, or to leave it out, or bedtools."""
     rows = [(command, option, text) for command, words, taken, text in options() if taken == "no" for option in words if option.startswith("-")]
     for command, option, text in rows:
-        wanted = "leave it out" if text.startswith("leave") else "docs/RECIPES.md, " if re.match(r"(?!none).*\.sh`", text) else f"has no {option}: bedtools"
+        wanted = "leave it out" if text.startswith("leave") else "(docs/RECIPES.md) does it" if re.match(r"(?!none).*\.sh`", text) else f"has no {option}: bedtools"
         said = call([front, command, option], folder, looking())[1].splitlines()[-1]
         count.expect(f"the hint of {command} {option}", True, said.startswith("dunekettle: ") and wanted in said)
     count.expect("options of options.tsv", True, len(rows) > 50)
+
+
+def at_terminal(words, folder):
+    """What a command says on a terminal that is its standard input too, at whose end it is at once."""
+    ours, theirs = pty.openpty()
+    os.write(ours, b"\x04")
+    with subprocess.Popen(words, cwd=folder, env=looking(), stdin=theirs, stdout=subprocess.DEVNULL, stderr=theirs) as child:
+        os.close(theirs)
+        said = b""
+        try:
+            while piece := os.read(ours, 1000):
+                said += piece
+        except OSError:  # Nobody has the terminal open.
+            pass
+    os.close(ours)
+    return said.decode(), child.returncode
+
+
+def try_terminal(place, folder, count):
+    """A command that waits for lines from the terminal says so, unless it can't be used, or reads nothing there."""
+    lines = (("merge", 0, True), ("bamtobed", 0, True), ("intersect -a - -b f.bed", 0, True), ("merge -i stdin", 0, True), ("merge -i f.bed", 0, False),
+             ("complement", 2, False), ("merge -c", 2, False), ("marge", 2, False), ("help", 0, False))
+    for line, status, waits in lines:
+        said, found = at_terminal([place / "bin" / "dunekettle", *line.split()], folder)
+        count.expect(f"at a terminal: {line}", (status, waits), (found, "waits for lines from the terminal" in said))
 
 
 def try_help(place, folder, count):

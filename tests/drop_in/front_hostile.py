@@ -21,7 +21,7 @@ import time
 from pathlib import Path
 
 from front_faults import try_faults
-from front_hints import FILES, MERGED, fill, try_help, try_hints, try_names
+from front_hints import FILES, MERGED, fill, try_help, try_hints, try_names, try_terminal
 from front_tools import TOP, Count, PROGRAM, call, drop_in, install, is_busy, looking, original, shell, tools_alone
 from tests.pages.test_examples import examples_of
 
@@ -535,6 +535,7 @@ def main():
         folder.mkdir()
         fill(folder)
         try_hints(place, folder, count)
+        try_terminal(place, folder, count)
         try_help(place, folder, count)
         try_originals(place, folder, count)
         try_versions(place, folder, count)

@@ -55,6 +55,8 @@ UNTRUE = {
     r"merge -g`?[^.\n]*since bedtools refuses": "bedtools 2.30.0 takes merge -g",
     r"commented-out chromosome[^.|\n]*refused": "bedtools takes such a line for a chromosome",
     r"[Ee]ach (?:claim )?is proved": "the last of the ten claims is tested",
+    r"dunekettle-bedtools (?:merge|complement|intersect|subtract|genomecov|bamtobed|maskfasta)\b":
+        "what people type is dunekettle, with the command",
     r"(?<=\| )`no memory`[^\n]*none \|": "memory may run out in the middle",
 }
 OTHERS = ("man/*.1", "generated/**/*.*", "front/*", "packaging/control")
@@ -70,6 +72,8 @@ SAME = {
     "how long many reads that overlap took": {
         "CHANGELOG.md": r"on 30,000 bases took (\S+ s), and take (\S+ s)",
         "bench/HISTORY.md": r"on 30,000 bases\* (\S+ s) to (\S+ s)"},
+    "how many scripts are slower than bedtools": {
+        "README.md": r"(\d+) of (\d+) are slower than bedtools", "docs/RECIPES.md": r"(\d+) of (\d+) scripts are slower"},
     "how many bytes wait to be written": {
         "docs/COMMANDS.md": r"Ready lines are written ([\d,]+) bytes",
         "docs/PROVED.md": r"At most ([\d,]+) bytes of settled",

@@ -115,9 +115,10 @@ def put_originals(folder):
 
 
 def put_ours(folder):
-    """Makes a folder with the scripts, the program under the name that they call, and no original."""
+    """Makes a folder with the scripts, the program under the name that they call, what people call, and no original."""
     folder.mkdir()
     (folder / "dunekettle-bedtools").symlink_to(PROGRAM)
+    shutil.copy(TOP / "front" / "dunekettle", folder)
     (folder / "bedtools").symlink_to("/bin/false")
     for script in SCRIPTS.glob("*.sh"):
         shutil.copy(script, folder)

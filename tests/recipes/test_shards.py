@@ -173,7 +173,7 @@ class Faults(Shards):
         following = PAGE.read_text(encoding="utf-8").partition("# An error in the part of")[2]
         said = re.findall(r"^    (bedtools .*|parallel: .*|\./shard.sh chr2 .*)$", following, re.MULTILINE)
         self.expect_fault(block("An error in the part of"), self.folder, *said)
-        place = run(block("Where it is in the whole"), self.folder).stdout
+        place = run(block("The line of that record in the whole file"), self.folder).stdout
         self.assertTrue(place)
         self.assertIn(f"    {place}", following)
         self.assertFalse((self.folder / "merged.bed").exists())
