@@ -3,7 +3,7 @@ use Rattle.std.specs.Prelude.{ℕ, suc, ◌≡◌, ◌+◌, ◌-◌, ◌^◌, �
 use Rattle.std.specs.List.{list_any}
 use Rattle.bt_lines.specs.declared.device.Source.{Ghosts as Source}
 use Rattle.bt_lines.specs.calls.Reader.{Hands, IsKept, end_told, lines_given, fault_kept as line_fault}
-use Rattle.bt_bed.specs.model.Feature.{Feature, Interval, intervals_of, is_strand, length_of}
+use Rattle.bt_bed.specs.model.Feature.{Feature, Interval, intervals_of, is_same_strand, length_of}
 use Rattle.bt_bed.specs.model.Good.{items_in}
 use Rattle.bt_bed.specs.model.Order.{is_among}
 use Rattle.bt_bed.specs.declared.record.strand.Strand.TheVariants.{Dot}
@@ -26,7 +26,7 @@ use Rattle.bt_front.specs.model.Survey.{AreQuiet, AreSeen, IsTroubleIn, are_toge
 pub record Sees (old : RecordsSeen) (given : List Feature) (new : RecordsSeen) : Type 0 where
   pub count : new.count ≡ min (2 ^ 64 - 1) (old.count + length given)
   pub longest : new.longest ≡ max old.longest (largest (map length_of (intervals_of given)))
-  pub lacks_strand : new.lacks_strand ≡ (old.lacks_strand || list_any (λ r. is_strand r.strand Dot) given)
+  pub lacks_strand : new.lacks_strand ≡ (old.lacks_strand || list_any (λ r. is_same_strand r.strand Dot) given)
 
 -- the largest of the ends of records
 abbrev pub last_end : List Feature → ℕ

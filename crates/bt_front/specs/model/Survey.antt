@@ -5,7 +5,7 @@ use Rattle.bt_lines.specs.model.Lines.{text_lines}
 use Rattle.bt_lines.specs.calls.Names.{fault_value}
 use Rattle.bt_lines.specs.declared.fault.Input.TheVariants.{First}
 use Rattle.bt_lines.specs.declared.fault.Fault.{Fault}
-use Rattle.bt_bed.specs.model.Feature.{Feature, Interval, Span, interval_of, intervals_of, is_strand, length_of, spans_on}
+use Rattle.bt_bed.specs.model.Feature.{Feature, Interval, Span, interval_of, intervals_of, is_same_strand, length_of, spans_on}
 use Rattle.bt_bed.specs.declared.record.strand.Strand.TheVariants.{Dot}
 use Rattle.bt_bed.specs.model.Good.{Good, Member, block_format, good, items_in}
 use Rattle.bt_bed.specs.model.Order.{is_among}
@@ -96,7 +96,7 @@ extents_of records = map (extent_on records) (distinct (chroms_of records))
 pub record AreRecordsSeen (records : List Feature) (seen : RecordsSeen) : Type 0 where
   pub count : seen.count ≡ min (2 ^ 64 - 1) (length records)
   pub longest : seen.longest ≡ largest (map length_of (intervals_of records))
-  pub lacks_strand : seen.lacks_strand ≡ list_any (λ r. is_strand r.strand Dot) records
+  pub lacks_strand : seen.lacks_strand ≡ list_any (λ r. is_same_strand r.strand Dot) records
 
 -- what is said of records in which nothing leaves a text to bedtools
 pub record AreSeen (records : List Feature) (survey : Survey) : Type 0 where

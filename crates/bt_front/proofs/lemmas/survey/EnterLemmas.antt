@@ -1,7 +1,7 @@
 -- Lemmas on records of one chromosome that come after others.
 use Rattle.std.specs.List.{All}
 use Rattle.bt_lines.proofs.Std.{arith, common_steps, nat_tests, ◌≡◌, ◌∙◌, ◌⊎◌, ℕ, suc, ◌+◌, ◌-◌, ◌^◌, ◌<◌, ◌≤◌, ◌&&◌, ◌||◌, ◌++◌, Bool, List, [], ◌∷◌, All-cons, All-head, All-nil, All-tail, and_parts, ap, append-nil, append_assoc, bytes_eq, cases_Bool, false, false≢true, inl, inr, le-ltb, length, length-append, list_all, list_all-append, list_any, list_any-append, map, map-append, max, min, nat_lt, not, refl, subst, sym, true}
-use Rattle.bt_bed.specs.model.Feature.{Feature, Interval, interval_of, intervals_of, is_strand, length_of}
+use Rattle.bt_bed.specs.model.Feature.{Feature, Interval, interval_of, intervals_of, is_same_strand, length_of}
 use Rattle.bt_bed.specs.model.Order.{is_among}
 use Rattle.bt_bed.proofs.lemmas.parse.NameLemmas.{same_name, name_eq, name_eq-sym}
 use Rattle.bt_front.specs.calls.Chromosomes.{extents_in, is_last_name, widened}

@@ -2,7 +2,7 @@
 use Rattle.std.specs.List.{All}
 use Rattle.bt_lines.proofs.Std.{arith, common_steps, ◌≡◌, ◌∙◌, ℕ, suc, ◌+◌, ◌-◌, ◌^◌, ◌<◌, ◌≤◌, ◌++◌, ◌||◌, Bool, List, [], ◌∷◌, All-append, All-cons, All-nil, All-push, ap, append-nil, append_assoc, length, length-append, list_any, list_any-append, map, map-append, max, min, refl, sym, true, false}
 use Rattle.bt_lines.specs.calls.Reader.{PassesLines}
-use Rattle.bt_bed.specs.model.Feature.{Feature, Interval, interval_of, intervals_of, is_strand, length_of}
+use Rattle.bt_bed.specs.model.Feature.{Feature, Interval, interval_of, intervals_of, is_same_strand, length_of}
 use Rattle.bt_bed.specs.declared.record.strand.Strand.TheVariants.{Dot}
 use Rattle.bt_bed.specs.calls.Batch.{Passes, batch_room, chrom_in, cursor_in, left, line_in}
 use Rattle.bt_bed.specs.calls.CursorLaws.{batch_gives_more, batch_gives_none}
@@ -14,7 +14,7 @@ use Rattle.bt_front.proofs.lemmas.survey.ExtentLemmas.{largest_more}
 
 -- whether one of these records has no strand
 abbrev pub lacks : List Feature → Bool
-lacks records = list_any (λ r. is_strand r.strand Dot) records
+lacks records = list_any (λ r. is_same_strand r.strand Dot) records
 
 -- the length of the longest
 abbrev pub longest_of : List Feature → ℕ
@@ -47,14 +47,14 @@ line_passed first last records p = p.lines.given
 -- one more record of the batch was looked at
 pub looked_more : (seen : RecordsSeen) (first ahead next : Batch) (longest end : ℕ) (lacks_strand : Bool) (r : Feature) (longer later : ℕ) (without : Bool)
     → Looked seen first ahead longest lacks_strand end → Passes ahead (r ∷ []) next → r.chrom ≡ chrom_in ahead
-    → longer ≡ max longest (r.stop - r.start) → later ≡ max end r.stop → without ≡ (lacks_strand || is_strand r.strand Dot)
+    → longer ≡ max longest (r.stop - r.start) → later ≡ max end r.stop → without ≡ (lacks_strand || is_same_strand r.strand Dot)
     → Looked seen first next longer without later
 looked_more seen first ahead next longest end lacks_strand r longer later without so passes on long late strand = record {
   given = so.given ++ r ∷ [];
   passes = batch_gives_more first ahead next so.given (r ∷ []) so.passes passes;
   on = All-push (λ (s : Feature). s.chrom ≡ chrom_in first) so.given r so.on (on ∙ so.passes.chrom);
   longest_is = rw (map-append interval_of so.given (r ∷ [])) (long ∙ longest_more (map interval_of so.given) so.longest_is);
-  lacks_is = strand ∙ rw (so.lacks_is, list_any-append) (lacks_more seen.lacks_strand (lacks so.given) (is_strand r.strand Dot));
+  lacks_is = strand ∙ rw (so.lacks_is, list_any-append) (lacks_more seen.lacks_strand (lacks so.given) (is_same_strand r.strand Dot));
   end_is = late ∙ end_more;
 }
   where

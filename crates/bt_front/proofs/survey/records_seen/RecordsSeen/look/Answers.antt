@@ -6,12 +6,12 @@ use Rattle.bt_bed.specs.calls.Bed.{record_in}
 use Rattle.bt_bed.specs.contracts.record.strand.Strand.{the_type}
 use Rattle.bt_bed.specs.declared.record.strand.Strand.{Strand}
 use Rattle.bt_bed.specs.declared.record.strand.Strand.TheVariants.{Dot, Minus, Plus}
-use Rattle.bt_bed.specs.model.Feature.{is_strand}
+use Rattle.bt_bed.specs.model.Feature.{is_same_strand}
 use Rattle.bt_front.proofs.lemmas.survey.SeenLemmas.{line_passed, looked_all, looked_more}
 use Rattle.bt_front.proofs.survey.records_seen.RecordsSeen.look.Goals as goal
 
 -- the test of a strand
-is_dot : (strand : Strand) → sameb the_type strand Dot ≡ is_strand strand Dot
+is_dot : (strand : Strand) → sameb the_type strand Dot ≡ is_same_strand strand Dot
 is_dot Plus = refl
 is_dot Minus = refl
 is_dot Dot = refl

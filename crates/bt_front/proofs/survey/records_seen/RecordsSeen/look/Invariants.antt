@@ -1,6 +1,6 @@
 use Rattle.std.specs.List.{All, list_any}
 use Rattle.bt_lines.proofs.Std.{◌≡◌, ◌||◌, List, map, max}
-use Rattle.bt_bed.specs.model.Feature.{Feature, intervals_of, is_strand, length_of}
+use Rattle.bt_bed.specs.model.Feature.{Feature, intervals_of, is_same_strand, length_of}
 use Rattle.bt_bed.specs.declared.record.strand.Strand.TheVariants.{Dot}
 use Rattle.bt_bed.specs.calls.Batch.{Passes, batch_room, chrom_in}
 use Rattle.bt_front.specs.inside.Seeing.{last_end}
