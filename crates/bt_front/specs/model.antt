@@ -4,3 +4,4 @@ pub mod Fitting
 pub mod Odd
 pub mod Verdict
 pub mod Survey
+pub mod Extents

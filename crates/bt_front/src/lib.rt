@@ -10,6 +10,7 @@
 //! - *survey*: what is in a text, by one pass of the reader that runs read it with.
 //! - *trouble*: why a text has no survey: an odd line, one that Dunekettle refuses, or a chromosome that
 //!   comes back after others.
+//! - *pour*: to hand on a stream to the program that takes it: what was kept of it, and then the rest.
 //!
 //! An example, which is the test in `example.rt`: two command lines, of which bedtools takes the
 //! second. `strings` makes the words.
@@ -34,7 +35,10 @@
 #![tactic(auto)]
 
 #[cfg(test)]
+mod differences_tests;
+#[cfg(test)]
 mod example;
+mod laws;
 mod order;
 mod stream;
 mod survey;
@@ -43,6 +47,7 @@ mod tests;
 mod verdict;
 mod words;
 
+pub use laws::{common_orders_fit, what_is_taken_is_finished};
 pub use order::common_order::common_order;
 pub use stream::keeping::Keeping;
 pub use stream::pouring::{Unpoured, pour};

@@ -3,7 +3,7 @@ use Rattle.std.specs.Prelude.{◌≡◌, true, ◌||◌, List, [], Option, Some,
 use Rattle.bt_bed.specs.model.Order.{is_among, rank_order}
 use Rattle.bt_bed.specs.calls.Orders.{AreDistinct}
 use Rattle.bt_front.specs.declared.survey.chromosomes.Chromosomes.{Chromosomes}
-use Rattle.bt_front.specs.calls.Chromosomes.{names_in}
+use Rattle.bt_front.specs.model.Extents.{names_in}
 use Rattle.bt_front.specs.model.Fitting.{are_in_order, common_names}
 
 -- the names of an input's chromosomes; an input that isn't given has none

@@ -1,12 +1,59 @@
--- What surveying a source does.
-use Rattle.std.specs.Prelude.{ℕ, ◌≡◌, ◌⊎◌, true, List, ◌++◌, Option, Some, Result, Ok, Err}
+-- What leaves a text to bedtools, and what surveying a source does.
+use Rattle.std.specs.Prelude.{ℕ, ◌≡◌, ◌⊎◌, true, false, List, [], ◌∷◌, ◌++◌, map, Option, Some, Result, Ok, Err}
 use Rattle.std.specs.List.{list_all}
 use Rattle.bt_lines.specs.declared.device.Source.{Ghosts as Source}
 use Rattle.bt_lines.specs.calls.Device.{FailsAfter, ReadsOn}
+use Rattle.bt_lines.specs.calls.Names.{fault_value}
+use Rattle.bt_bed.specs.model.Feature.{Feature, intervals_of}
+use Rattle.bt_bed.specs.model.Good.{Good, Member}
+use Rattle.bt_bed.specs.calls.Reading.{is_of_line}
 use Rattle.bt_front.specs.declared.survey.Survey.{Survey}
+use Rattle.bt_front.specs.declared.survey.oddity.OddLine.{OddLine}
 use Rattle.bt_front.specs.declared.survey.trouble.Trouble.{Trouble}
-use Rattle.bt_front.specs.model.Odd.{is_plain, raw_lines}
-use Rattle.bt_front.specs.model.Survey.{IsSurveyOf, IsTroubleOf}
+use Rattle.bt_front.specs.declared.survey.trouble.Trouble.TheVariants.{ComesBack, Odd, Refused}
+use Rattle.bt_front.specs.model.Odd.{IsOddLine, is_plain, raw_lines}
+use Rattle.bt_front.specs.model.Survey.{IsSurveyOf, are_together, chroms_of, is_odd_record, is_plain_record, read_of}
+
+-- What leaves a text to bedtools.
+
+-- nothing in these records does
+pub record AreQuiet (records : List Feature) : Type 0 where
+  pub plain : list_all is_plain_record records ≡ true
+  pub together : are_together (chroms_of (intervals_of records)) ≡ true
+
+-- the record is on this line, and nothing in those before it leaves a text to bedtools
+pub record ComesFirst (good : Good Feature) (before : List (Member Feature)) (line : ℕ) (r : Feature) : Type 0 where
+  pub rest : List (Member Feature)
+  pub members : good.members ≡ before ++ record { line = line; item = r } ∷ rest
+  pub quiet : AreQuiet (map (λ m. m.item) before)
+
+-- the line of the first record that is odd
+pub record IsOddRecord (good : Good Feature) (odd : OddLine) : Type 0 where
+  pub before : List (Member Feature)
+  pub r : Feature
+  pub comes : ComesFirst good before odd.line r
+  pub is : is_odd_record odd.oddity r ≡ true
+
+-- the line of the first record whose chromosome comes back after others
+pub record ComesBackAt (good : Good Feature) (line : ℕ) : Type 0 where
+  pub before : List (Member Feature)
+  pub r : Feature
+  pub comes : ComesFirst good before line r
+  pub is : are_together (chroms_of (intervals_of (map (λ m. m.item) before)) ++ r.chrom ∷ []) ≡ false
+
+-- what of the records and the first line at fault leaves a text to bedtools
+abbrev pub IsTroubleIn : Good Feature → Trouble → Type 0
+IsTroubleIn good (Odd odd) = IsOddRecord good odd
+IsTroubleIn good (Refused fault) = is_of_line fault.kind ≡ true → good.fault ≡ Some (fault_value fault)
+IsTroubleIn good (ComesBack line) = ComesBackAt good line
+
+-- what leaves a text to bedtools: an odd line, a line that Dunekettle refuses, or a chromosome that comes back
+abbrev pub IsTroubleOf : List ℕ → Trouble → Type 0
+IsTroubleOf text (Odd odd) = IsOddLine text odd ⊎ IsTroubleIn (read_of text) (Odd odd)
+IsTroubleOf text (Refused fault) = IsTroubleIn (read_of text) (Refused fault)
+IsTroubleOf text (ComesBack line) = IsTroubleIn (read_of text) (ComesBack line)
+
+-- What surveying a source does.
 
 module _ {S : Type 0} (device : Source S) (before after : S) where
   -- all that the source had was read, and this is said of it

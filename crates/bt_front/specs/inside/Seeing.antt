@@ -14,13 +14,15 @@ use Rattle.bt_bed.specs.declared.read.batch.Batch.{Batch}
 use Rattle.bt_bed.specs.declared.read.blocks.Blocks.{Blocks}
 use Rattle.bt_front.specs.declared.survey.Survey.{Survey}
 use Rattle.bt_front.specs.declared.survey.records_seen.RecordsSeen.{RecordsSeen}
-use Rattle.bt_front.specs.calls.Chromosomes.{extents_in, is_last_name}
+use Rattle.bt_front.specs.model.Extents.{extents_in}
+use Rattle.bt_front.specs.calls.Chromosomes.{is_last_name}
 use Rattle.bt_front.specs.declared.survey.oddity.OddLine.{OddLine}
 use Rattle.bt_front.specs.declared.survey.oddity.Oddity.TheVariants.{HeaderName}
 use Rattle.bt_front.specs.declared.survey.trouble.Trouble.{Trouble}
 use Rattle.bt_front.specs.declared.survey.trouble.Trouble.TheVariants.{ComesBack, Odd, Refused}
 use Rattle.bt_front.specs.model.Odd.{is_header_name}
-use Rattle.bt_front.specs.model.Survey.{AreQuiet, AreSeen, IsTroubleIn, are_together, chroms_of, is_odd_record, largest, largest_end}
+use Rattle.bt_front.specs.calls.Survey.{AreQuiet, IsTroubleIn}
+use Rattle.bt_front.specs.model.Survey.{AreSeen, are_together, chroms_of, is_odd_record, largest, largest_end}
 
 -- these records were looked at too
 pub record Sees (old : RecordsSeen) (given : List Feature) (new : RecordsSeen) : Type 0 where

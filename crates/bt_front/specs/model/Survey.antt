@@ -1,24 +1,18 @@
--- What a survey says of a text, and what leaves a text to bedtools.
-use Rattle.std.specs.Prelude.{ℕ, ◌≡◌, ◌⊎◌, ◌-◌, ◌^◌, Bool, true, false, ◌&&◌, ◌||◌, not, List, [], ◌∷◌, ◌++◌, bytes_eq, if◌then◌else◌, length, map, max, min, nat_lt, Option, Some, None, Result, Ok, Err}
+-- What a survey says of a text.
+use Rattle.std.specs.Prelude.{ℕ, ◌≡◌, ◌-◌, ◌^◌, Bool, true, false, ◌&&◌, ◌||◌, not, List, [], ◌∷◌, bytes_eq, if◌then◌else◌, length, map, max, min, nat_lt, None}
 use Rattle.std.specs.List.{list_all, list_any}
 use Rattle.bt_lines.specs.model.Lines.{text_lines}
-use Rattle.bt_lines.specs.calls.Names.{fault_value}
 use Rattle.bt_lines.specs.declared.fault.Input.TheVariants.{First}
-use Rattle.bt_lines.specs.declared.fault.Fault.{Fault}
 use Rattle.bt_bed.specs.model.Feature.{Feature, Interval, Span, interval_of, intervals_of, is_same_strand, length_of, spans_on}
 use Rattle.bt_bed.specs.declared.record.strand.Strand.TheVariants.{Dot}
-use Rattle.bt_bed.specs.model.Good.{Good, Member, block_format, good, items_in}
+use Rattle.bt_bed.specs.model.Good.{Good, block_format, good, items_in}
 use Rattle.bt_bed.specs.model.Order.{is_among}
-use Rattle.bt_bed.specs.calls.Reading.{is_of_line}
-use Rattle.bt_front.specs.calls.Chromosomes.{extents_in}
+use Rattle.bt_front.specs.model.Extents.{extents_in}
 use Rattle.bt_front.specs.declared.survey.Survey.{Survey}
 use Rattle.bt_front.specs.declared.survey.records_seen.RecordsSeen.{RecordsSeen}
-use Rattle.bt_front.specs.declared.survey.trouble.Trouble.{Trouble}
-use Rattle.bt_front.specs.declared.survey.trouble.Trouble.TheVariants.{ComesBack, Odd, Refused}
 use Rattle.bt_front.specs.declared.survey.oddity.Oddity.{Oddity}
 use Rattle.bt_front.specs.declared.survey.oddity.Oddity.TheVariants.{FarEnd, HeaderName}
-use Rattle.bt_front.specs.declared.survey.oddity.OddLine.{OddLine}
-use Rattle.bt_front.specs.model.Odd.{IsOddLine, is_header_name, is_plain, raw_lines}
+use Rattle.bt_front.specs.model.Odd.{is_header_name, is_plain, raw_lines}
 
 -- The records of a text as Dunekettle reads it, up to the first line at fault, and that fault. The chromosomes come
 -- in any order; a record doesn't start before the one right before it on its chromosome.
@@ -110,47 +104,3 @@ pub record IsSurveyOf (text : List ℕ) (survey : Survey) : Type 0 where
   pub plain : list_all is_plain (raw_lines text) ≡ true
   pub faultless : (read_of text).fault ≡ None
   pub records : AreSeen (items_in (read_of text)) survey
-
--- What leaves a text to bedtools.
-
--- nothing in these records does
-pub record AreQuiet (records : List Feature) : Type 0 where
-  pub plain : list_all is_plain_record records ≡ true
-  pub together : are_together (chroms_of (intervals_of records)) ≡ true
-
--- the record is on this line, and nothing in those before it leaves a text to bedtools
-pub record ComesFirst (good : Good Feature) (before : List (Member Feature)) (line : ℕ) (r : Feature) : Type 0 where
-  pub rest : List (Member Feature)
-  pub members : good.members ≡ before ++ record { line = line; item = r } ∷ rest
-  pub quiet : AreQuiet (map (λ m. m.item) before)
-
--- the line of the first record that is odd
-pub record IsOddRecord (good : Good Feature) (odd : OddLine) : Type 0 where
-  pub before : List (Member Feature)
-  pub r : Feature
-  pub comes : ComesFirst good before odd.line r
-  pub is : is_odd_record odd.oddity r ≡ true
-
--- the line of the first record whose chromosome comes back after others
-pub record ComesBackAt (good : Good Feature) (line : ℕ) : Type 0 where
-  pub before : List (Member Feature)
-  pub r : Feature
-  pub comes : ComesFirst good before line r
-  pub is : are_together (chroms_of (intervals_of (map (λ m. m.item) before)) ++ r.chrom ∷ []) ≡ false
-
--- what of the records and the first line at fault leaves a text to bedtools
-abbrev pub IsTroubleIn : Good Feature → Trouble → Type 0
-IsTroubleIn good (Odd odd) = IsOddRecord good odd
-IsTroubleIn good (Refused fault) = is_of_line fault.kind ≡ true → good.fault ≡ Some (fault_value fault)
-IsTroubleIn good (ComesBack line) = ComesBackAt good line
-
--- what leaves a text to bedtools: an odd line, a line that Dunekettle refuses, or a chromosome that comes back
-abbrev pub IsTroubleOf : List ℕ → Trouble → Type 0
-IsTroubleOf text (Odd odd) = IsOddLine text odd ⊎ IsTroubleIn (read_of text) (Odd odd)
-IsTroubleOf text (Refused fault) = IsTroubleIn (read_of text) (Refused fault)
-IsTroubleOf text (ComesBack line) = IsTroubleIn (read_of text) (ComesBack line)
-
--- what a survey of a text tells
-abbrev pub TellsOf : List ℕ → Result Survey Trouble → Type 0
-TellsOf text (Ok survey) = IsSurveyOf text survey
-TellsOf text (Err trouble) = IsTroubleOf text trouble

@@ -3,7 +3,7 @@ use Rattle.std.specs.Prelude.{ℕ, Bool, true, false, ◌&&◌, ◌||◌, ◌==�
 use Rattle.std.specs.List.{list_all, list_any}
 use Rattle.std.specs.Option.{option_to_list}
 use Rattle.bt_bed.specs.model.Genome.{Entry, genome_names}
-use Rattle.bt_bed.specs.model.Order.{byte_order, rank_order}
+use Rattle.bt_bed.specs.model.Order.{rank_order}
 use Rattle.bt_runs.specs.declared.merge.merge_strand.MergeStrand.TheVariants.{All, Each, One}
 use Rattle.bt_sweep.specs.declared.hits.hit_rule.HitRule.{HitRule}
 use Rattle.bt_sweep.specs.declared.output.shape.Shape.{Shape}
@@ -18,7 +18,7 @@ use Rattle.bt_front.specs.declared.verdict.reason.InOrderOf.{InOrderOf}
 use Rattle.bt_front.specs.declared.verdict.reason.InOrderOf.TheVariants.{Bytes, GenomeFile, Found}
 use Rattle.bt_front.specs.declared.verdict.reason.Reason.{Reason}
 use Rattle.bt_front.specs.declared.verdict.reason.Reason.TheVariants.{NoSurvey, NoStrand, MixedNames, LongForFraction, NoGenome, NotByGenome, PastLength, LongChromosome, EmptyNotLast, ManyRecords, NotByBytes, NoCommonOrder}
-use Rattle.bt_front.specs.calls.Chromosomes.{extents_in, names_in}
+use Rattle.bt_front.specs.model.Extents.{extents_in, names_in, ascend_by_bytes}
 use Rattle.bt_front.specs.model.Fitting.{are_first, are_in_order, common_names, ends_fit}
 use Rattle.bt_front.specs.model.Odd.{begins_as}
 use Rattle.bt_front.specs.model.Words.{Row, first_of, or_reason}
@@ -169,7 +169,7 @@ genome_rows command first second entries =
 
 -- whether the chromosomes of each text are in the order of their bytes
 abbrev pub are_by_bytes : Survey → Option Survey → Bool
-are_by_bytes first second = list_all (λ text. are_in_order byte_order (names_seen text)) (texts_of first second)
+are_by_bytes first second = list_all (λ text. ascend_by_bytes (names_seen text)) (texts_of first second)
 
 -- the names of the second text, if there is one
 abbrev pub second_names : Option Survey → List (List ℕ)

@@ -2,7 +2,7 @@
 
 ghost use Rattle.std.specs.Prelude.{◌≡◌, ◌++◌, ◌-◌, ◌≤◌, IfOk, OnOk, take, drop, length, is_some, option_copied, option_map};
 ghost use Rattle.bt_bed.specs.model.Order.{rank_of};
-ghost use Rattle.bt_front.specs.calls.Chromosomes.{names_in};
+ghost use Rattle.bt_front.specs.model.Extents.{names_in};
 ghost use Rattle.bt_front.specs.calls.Orders.{names_among};
 ghost use Rattle.bt_front.specs.model.Fitting.{common_names, entry_text, order_text};
 

@@ -2,27 +2,13 @@
 
 ghost use Rattle.std.specs.Prelude.{◌≡◌, nat_lt};
 ghost use Rattle.std.specs.List.{list_any};
-ghost use Rattle.bt_bed.specs.model.Order.{byte_order, rank_order};
+ghost use Rattle.bt_bed.specs.model.Order.{rank_order};
 ghost use Rattle.bt_bed.specs.calls.GenomeTable.{entries, names_of};
-ghost use Rattle.bt_front.specs.calls.Chromosomes.{extents_in, names_in};
+ghost use Rattle.bt_front.specs.model.Extents.{extents_in, names_in};
 ghost use Rattle.bt_front.specs.model.Fitting.{are_first, are_in_order, ends_fit};
 
 use crate::survey::chromosomes::Chromosomes;
-use bt_bed::{ByteOrder, ChromOrder, Genome, is_same_name};
-
-/// Whether the chromosomes are in the order of their names' bytes.
-pub(crate) fn is_by_bytes(chromosomes: &Chromosomes) -> bool
-    ensures { result ≡ are_in_order byte_order (names_in chromosomes.now) }
-{
-    for at in 1..chromosomes.count() {
-        let before = chromosomes.name(at - 1);
-        let name = chromosomes.name(at);
-        if !ByteOrder.compare(before, name).is_lt() {
-            return false;
-        }
-    }
-    true
-}
+use bt_bed::{Genome, is_same_name};
 
 /// Whether the genome file has all of the chromosomes, and has them in their order.
 pub(crate) fn is_in_order_of(chromosomes: &Chromosomes, genome: &Genome) -> bool

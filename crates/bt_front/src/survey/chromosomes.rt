@@ -24,11 +24,12 @@ pub struct Chromosomes {
     extents: IndexMap<Vec<u8>, Extent>,
 }
 
-#[tactic(auto, unfolding(crate::specs::calls::Chromosomes::extents_in))]
+#[tactic(auto, unfolding(crate::specs::model::Extents::extents_in))]
 impl Chromosomes {
     ghost use Rattle.std.specs.Prelude.{◌≡◌, ◌∷◌, ◌++◌, [], IfErr, OnOk, OnErr, Some, length, option_map, slice_get, false};
     ghost use Rattle.bt_bed.specs.model.Order.{is_among, rank_of};
-    ghost use Rattle.bt_front.specs.calls.Chromosomes.{ascend_by_bytes, extents_in, is_last_name, names_in, placed, widened};
+    ghost use Rattle.bt_front.specs.calls.Chromosomes.{is_last_name, placed, widened};
+    ghost use Rattle.bt_front.specs.model.Extents.{ascend_by_bytes, extents_in, names_in};
 
     /// None yet.
     pub fn new(alloc: Global) -> Chromosomes

@@ -14,7 +14,7 @@ ghost use Rattle.bt_front.specs.model.Verdict.{are_all_named, are_by_bytes, are_
 ghost use Rattle.bt_front.specs.model.Words.{first_of};
 
 use crate::order::common_order::has_common_order;
-use crate::order::fitting::{are_first_of, fits_lengths, has_longer, is_by_bytes, is_in_order_of};
+use crate::order::fitting::{are_first_of, fits_lengths, has_longer, is_in_order_of};
 use crate::survey::Survey;
 use crate::verdict::counts::{
     has_survey, is_coverage, needs_genome, needs_strand, rule_of, writes_zeros,
@@ -188,8 +188,8 @@ fn are_by_bytes(first: &Survey, second: Option<&Survey>) -> bool
     ensures { result ≡ are_by_bytes first.now (option_copied second.entry) }
 {
     match second {
-        Some(second) => is_by_bytes(&first.chromosomes) && is_by_bytes(&second.chromosomes),
-        None => is_by_bytes(&first.chromosomes),
+        Some(second) => first.chromosomes.are_by_bytes() && second.chromosomes.are_by_bytes(),
+        None => first.chromosomes.are_by_bytes(),
     }
 }
 

@@ -1,7 +1,7 @@
 //! How the names of chromosomes are written, of which bedtools warns if it isn't one way.
 
 ghost use Rattle.std.specs.Prelude.{◌≡◌};
-ghost use Rattle.bt_front.specs.calls.Chromosomes.{names_in};
+ghost use Rattle.bt_front.specs.model.Extents.{names_in};
 ghost use Rattle.bt_front.specs.model.Verdict.{are_named};
 
 use crate::survey::chromosomes::Chromosomes;

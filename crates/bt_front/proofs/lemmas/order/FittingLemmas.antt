@@ -211,22 +211,6 @@ module _ (names chroms : List (List ℕ)) (at : ℕ) where
         → are_first (drop at names) (drop at chroms) ≡ (b && are_first (drop (at + 1) names) (drop (at + 1) chroms))
     next_first other there b same = rw (at_drop names at other there, at_drop chroms at name is, same) refl
 
--- The order of bytes.
-
-module _ (names : List (List ℕ)) (at : ℕ) where
-  pub last_by_bytes : length names ≤ at + 1 → are_in_order byte_order (drop at names) ≡ true
-  last_by_bytes past = last_one (drop at names) (omega (arith, length-drop at names))
-    where
-      last_one : (ns : List (List ℕ)) → length ns ≤ 1 → are_in_order byte_order ns ≡ true
-      last_one [] short = refl
-      last_one (n ∷ []) short = refl
-      last_one (n ∷ m ∷ ms) short = absurd (omega arith)
-
-  pub next_by_bytes : (one two : List ℕ) → slice_get names at ≡ Some one → slice_get names (at + 1) ≡ Some two → (b : Bool)
-      → is_lt (byte_order.compare one two) ≡ b
-      → are_in_order byte_order (drop at names) ≡ (b && are_in_order byte_order (drop (at + 1) names))
-  next_by_bytes one two here there b less = rw (at_drop names at one here, at_drop names (at + 1) two there, less) refl
-
 -- Lengths of a genome file.
 
 any_by : (entries : List Entry) (rank : ℕ) (limit length : ℕ) (o : Option Entry) → slice_get entries rank ≡ o

@@ -6,7 +6,8 @@ use Rattle.bt_bed.specs.model.Order.{is_among}
 use Rattle.bt_bed.specs.calls.Batch.{Passes, left, line_in}
 use Rattle.bt_bed.specs.calls.CursorLaws.{batch_gives_none}
 use Rattle.bt_bed.specs.declared.read.batch.Batch.{Batch}
-use Rattle.bt_front.specs.calls.Chromosomes.{extents_in, is_last_name, widened}
+use Rattle.bt_front.specs.model.Extents.{extents_in}
+use Rattle.bt_front.specs.calls.Chromosomes.{is_last_name, widened}
 use Rattle.bt_front.specs.declared.survey.Survey.{Survey}
 use Rattle.bt_front.specs.declared.survey.oddity.Oddity.TheVariants.{FarEnd}
 use Rattle.bt_front.specs.declared.survey.trouble.Trouble.{Trouble}

@@ -6,7 +6,8 @@ use Rattle.indexmap.specs.Layout.{set_value_at}
 use Rattle.bt_bed.specs.model.Feature.{Interval}
 use Rattle.bt_bed.specs.model.Order.{is_among, rank_of}
 use Rattle.bt_bed.proofs.lemmas.parse.NameLemmas.{name_eq-sym}
-use Rattle.bt_front.specs.calls.Chromosomes.{ascend_by_bytes, extent_seen, is_last_name, placed, widened}
+use Rattle.bt_front.specs.model.Extents.{extent_seen, ascend_by_bytes}
+use Rattle.bt_front.specs.calls.Chromosomes.{is_last_name, placed, widened}
 use Rattle.bt_front.specs.declared.survey.chromosomes.Extent.{Extent}
 
 abbrev Table : Type 0

@@ -4,12 +4,14 @@ use Rattle.bt_lines.proofs.Std.{arith, common_steps, nat_tests, ◌≡◌, ◌�
 use Rattle.bt_bed.specs.model.Feature.{Feature, Interval, interval_of, intervals_of, is_same_strand, length_of}
 use Rattle.bt_bed.specs.model.Order.{is_among}
 use Rattle.bt_bed.proofs.lemmas.parse.NameLemmas.{same_name, name_eq, name_eq-sym}
-use Rattle.bt_front.specs.calls.Chromosomes.{extents_in, is_last_name, widened}
+use Rattle.bt_front.specs.model.Extents.{extents_in}
+use Rattle.bt_front.specs.calls.Chromosomes.{is_last_name, widened}
 use Rattle.bt_front.specs.declared.survey.Survey.{Survey}
 use Rattle.bt_front.specs.declared.survey.records_seen.RecordsSeen.{RecordsSeen}
 use Rattle.bt_front.specs.inside.Seeing.{HasEntered, Sees, last_end}
 use Rattle.bt_front.specs.model.Odd.{is_header_name}
-use Rattle.bt_front.specs.model.Survey.{AreQuiet, AreRecordsSeen, AreSeen, are_together, chroms_of, distinct, extents_of, is_plain_record, largest, largest_end}
+use Rattle.bt_front.specs.calls.Survey.{AreQuiet}
+use Rattle.bt_front.specs.model.Survey.{AreRecordsSeen, AreSeen, are_together, chroms_of, distinct, extents_of, is_plain_record, largest, largest_end}
 use Rattle.bt_front.proofs.lemmas.survey.ExtentLemmas.{chroms_more, extent_names, extents_again, extents_new, largest_more}
 use Rattle.bt_front.proofs.lemmas.survey.SeenLemmas.{lacks, longest_of}
 use Rattle.bt_front.proofs.lemmas.survey.TogetherLemmas.{among_distinct, comes_back, last_among, last_distinct, together_again, together_new}

@@ -14,7 +14,7 @@ use Rattle.bt_bed.specs.calls.Reading.{good_coming}
 use Rattle.bt_bed.specs.declared.read.blocks.Blocks.{Blocks}
 use Rattle.bt_bed.specs.model.Feature.{Feature}
 use Rattle.bt_bed.specs.model.Good.{Good, block_format, good, items_in}
-use Rattle.bt_front.specs.calls.Survey.{LeavesText, Surveys}
+use Rattle.bt_front.specs.calls.Survey.{LeavesText, Surveys, IsTroubleIn, IsTroubleOf}
 use Rattle.bt_front.specs.declared.survey.Survey.{Survey}
 use Rattle.bt_front.specs.declared.survey.oddity.OddLine.{OddLine}
 use Rattle.bt_front.specs.declared.survey.trouble.Trouble.{Trouble}
@@ -23,7 +23,7 @@ use Rattle.bt_front.specs.declared.survey.watched.Watched.{Watched}
 use Rattle.bt_front.specs.inside.Seeing.{HasSeenAll, StopsSeeing}
 use Rattle.bt_front.specs.inside.Watched.{BeginsOdd, EndsBy, FailsWatched, IsWatchedRead, ServesWatched, Shows, ShowsBy, watched_source}
 use Rattle.bt_front.specs.model.Odd.{IsOddLine, is_plain, raw_lines}
-use Rattle.bt_front.specs.model.Survey.{AreSeen, IsSurveyOf, IsTroubleIn, IsTroubleOf, read_of}
+use Rattle.bt_front.specs.model.Survey.{AreSeen, IsSurveyOf, read_of}
 
 -- ---- the reads of a watched source are those of the source below, and the bytes are looked at
 

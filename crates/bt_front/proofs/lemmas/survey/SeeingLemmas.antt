@@ -23,7 +23,8 @@ use Rattle.bt_front.specs.declared.survey.Survey.{Survey}
 use Rattle.bt_front.specs.declared.survey.trouble.Trouble.{Trouble}
 use Rattle.bt_front.specs.declared.survey.trouble.Trouble.TheVariants.{ComesBack, Odd, Refused}
 use Rattle.bt_front.specs.inside.Seeing.{HasSeenAll, LeavesOf, SeesAfter, SeesBatch, SeesBuffered, StopsSeeing}
-use Rattle.bt_front.specs.model.Survey.{AreSeen, IsTroubleIn}
+use Rattle.bt_front.specs.calls.Survey.{IsTroubleIn}
+use Rattle.bt_front.specs.model.Survey.{AreSeen}
 
 -- ---- what a reader in blocks holds
 

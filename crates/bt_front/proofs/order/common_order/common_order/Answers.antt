@@ -1,6 +1,6 @@
 use Rattle.bt_lines.proofs.Std.{arith, ◌∙◌, ◌≡◌, ◌≤◌, ◌++◌, ap, drop, length, option_map, Some, sym}
 use Rattle.std.specs.Option.{option_copied}
-use Rattle.bt_front.specs.calls.Chromosomes.{names_in}
+use Rattle.bt_front.specs.model.Extents.{names_in}
 use Rattle.bt_front.specs.calls.Orders.{names_among}
 use Rattle.bt_front.specs.model.Fitting.{names_between, order_text}
 use Rattle.bt_front.proofs.lemmas.order.CommonLemmas.{all_between, all_common, next_step, no_order, placed_step, text_after}

@@ -1,6 +1,6 @@
 use Rattle.bt_lines.proofs.Std.{◌≡◌, ◌≤◌, ◌++◌, drop, length, option_map}
 use Rattle.std.specs.Option.{option_copied}
-use Rattle.bt_front.specs.calls.Chromosomes.{names_in}
+use Rattle.bt_front.specs.model.Extents.{names_in}
 use Rattle.bt_front.specs.calls.Orders.{names_among}
 use Rattle.bt_front.specs.model.Fitting.{common_from, common_names, order_text}
 use Rattle.bt_front.proofs.order.common_order.common_order.Given as goal

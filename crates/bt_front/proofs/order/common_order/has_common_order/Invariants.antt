@@ -1,6 +1,6 @@
 use Rattle.bt_lines.proofs.Std.{◌≡◌, drop, is_some}
 use Rattle.std.specs.Option.{option_copied}
-use Rattle.bt_front.specs.calls.Chromosomes.{names_in}
+use Rattle.bt_front.specs.model.Extents.{names_in}
 use Rattle.bt_front.specs.calls.Orders.{names_among}
 use Rattle.bt_front.specs.model.Fitting.{common_from}
 use Rattle.bt_front.proofs.order.common_order.has_common_order.Given as goal

@@ -1,5 +1,5 @@
 use Rattle.bt_lines.proofs.Std.{◌∙◌, ◌++◌, ◌-◌, ap, append_assoc, drop, sym, take}
-use Rattle.bt_front.specs.calls.Chromosomes.{names_in}
+use Rattle.bt_front.specs.model.Extents.{names_in}
 use Rattle.bt_front.specs.model.Fitting.{entry_text, order_text}
 use Rattle.bt_front.proofs.lemmas.order.CommonLemmas.{one_more}
 use Rattle.bt_front.proofs.order.common_order.put_names.Goals as goal

@@ -1,5 +1,5 @@
 use Rattle.bt_lines.proofs.Std.{◌≡◌, ◌-◌, ◌++◌, drop, take}
-use Rattle.bt_front.specs.calls.Chromosomes.{names_in}
+use Rattle.bt_front.specs.model.Extents.{names_in}
 use Rattle.bt_front.specs.model.Fitting.{order_text}
 use Rattle.bt_front.proofs.order.common_order.put_names.Given as goal
 

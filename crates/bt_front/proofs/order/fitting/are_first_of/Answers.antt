@@ -1,7 +1,7 @@
 use Rattle.bt_lines.proofs.Std.{arith, ◌∙◌, ap, false, length-map, sym, true}
 use Rattle.bt_bed.specs.calls.GenomeTable.{entries, names_of}
 use Rattle.bt_bed.specs.model.Genome.{Entry}
-use Rattle.bt_front.specs.calls.Chromosomes.{names_in}
+use Rattle.bt_front.specs.model.Extents.{names_in}
 use Rattle.bt_front.proofs.lemmas.order.FittingLemmas.{next_first, none_left}
 use Rattle.bt_front.proofs.order.fitting.are_first_of.Goals as goal
 

@@ -1,7 +1,7 @@
 use Rattle.bt_lines.proofs.Std.{arith, ◌∙◌, length-map, sym}
 use Rattle.bt_bed.specs.calls.GenomeTable.{entries, names_of}
 use Rattle.bt_bed.specs.model.Genome.{Entry}
-use Rattle.bt_front.specs.calls.Chromosomes.{extents_in}
+use Rattle.bt_front.specs.model.Extents.{extents_in}
 use Rattle.bt_front.proofs.lemmas.order.FittingLemmas.{next_fits, no_entry_ends, past_ends, rank_within}
 use Rattle.bt_front.proofs.order.fitting.fits_lengths.Goals as goal
 

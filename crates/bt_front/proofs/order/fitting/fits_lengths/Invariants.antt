@@ -1,6 +1,6 @@
 use Rattle.bt_lines.proofs.Std.{◌≡◌, drop}
 use Rattle.bt_bed.specs.calls.GenomeTable.{entries}
-use Rattle.bt_front.specs.calls.Chromosomes.{extents_in}
+use Rattle.bt_front.specs.model.Extents.{extents_in}
 use Rattle.bt_front.specs.model.Fitting.{ends_fit}
 use Rattle.bt_front.proofs.order.fitting.fits_lengths.Given as goal
 

@@ -1,7 +1,7 @@
 use Rattle.bt_lines.proofs.Std.{arith, ◌∙◌, length-map, sym}
 use Rattle.bt_bed.specs.calls.GenomeTable.{entries, names_of}
 use Rattle.bt_bed.specs.model.Genome.{Entry}
-use Rattle.bt_front.specs.calls.Chromosomes.{names_in}
+use Rattle.bt_front.specs.model.Extents.{names_in}
 use Rattle.bt_front.proofs.lemmas.order.FittingLemmas.{all_ascend, ascends_zero, lower_ends, next_ascends, rank_within, unknown_ends}
 use Rattle.bt_front.proofs.order.fitting.is_in_order_of.Goals as goal
 

@@ -1,6 +1,6 @@
 use Rattle.bt_lines.proofs.Std.{◌≡◌, drop}
 use Rattle.bt_bed.specs.calls.GenomeTable.{names_of}
-use Rattle.bt_front.specs.calls.Chromosomes.{names_in}
+use Rattle.bt_front.specs.model.Extents.{names_in}
 use Rattle.bt_front.proofs.lemmas.order.FittingLemmas.{ascends}
 use Rattle.bt_front.proofs.order.fitting.is_in_order_of.Given as goal
 

@@ -1,7 +1,7 @@
-use Rattle.std.proofs.Common.{◌≡◌, ℕ, List, [], ◌++◌, append_assoc, sym, take, arith}
+use Rattle.std.proofs.Common.{[], ◌++◌, append_assoc, sym, take, arith}
 use Rattle.std.proofs.lemmas.List.{append-nil}
 use Rattle.std.proofs.KnownBytes.{Appends-kept, Appends-trans}
-use Rattle.bt_lines.specs.calls.Device.{ReadsOn, begun, gave}
+use Rattle.bt_lines.specs.calls.Device.{begun, gave}
 use Rattle.bt_front.proofs.stream.pouring.pour.Goals as goal
 
 pub loop-init : goal.loop-init

@@ -1,6 +1,6 @@
 use Rattle.std.proofs.lemmas.Grind.{common_steps}
 use Rattle.bt_lines.proofs.Std.{◌∙◌, arith, refl, sym, inr}
-use Rattle.bt_front.specs.calls.Chromosomes.{names_in}
+use Rattle.bt_front.specs.model.Extents.{names_in}
 use Rattle.bt_front.proofs.lemmas.survey.ChromosomeLemmas.{ranked_among}
 use Rattle.bt_front.proofs.survey.Survey.enter.Goals as goal
 

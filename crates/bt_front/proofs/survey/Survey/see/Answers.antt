@@ -4,7 +4,8 @@ use Rattle.bt_lines.proofs.Std.{◌≡◌, ◌∙◌, ℕ, List, [], ◌∷◌, 
 use Rattle.bt_bed.specs.calls.Batch.{left, chrom_in, line_in}
 use Rattle.bt_bed.specs.calls.Bed.{record_in}
 use Rattle.bt_bed.specs.model.Feature.{Feature}
-use Rattle.bt_front.specs.calls.Chromosomes.{extents_in, widened}
+use Rattle.bt_front.specs.model.Extents.{extents_in}
+use Rattle.bt_front.specs.calls.Chromosomes.{widened}
 use Rattle.bt_front.specs.declared.survey.records_seen.RecordsSeen.{RecordsSeen}
 use Rattle.bt_front.specs.inside.Seeing.{Sees}
 use Rattle.bt_front.proofs.lemmas.survey.BatchLemmas.{BeginsWith, sees_all, sees_far, sees_none, sees_refused}

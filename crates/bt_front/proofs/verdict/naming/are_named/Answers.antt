@@ -1,5 +1,5 @@
 use Rattle.bt_lines.proofs.Std.{arith, ◌∙◌, false, sym, true}
-use Rattle.bt_front.specs.calls.Chromosomes.{names_in}
+use Rattle.bt_front.specs.model.Extents.{names_in}
 use Rattle.bt_front.specs.model.Verdict.{is_named}
 use Rattle.bt_front.proofs.lemmas.order.FittingLemmas.{last_pass, next_pass}
 use Rattle.bt_front.proofs.verdict.naming.are_named.Goals as goal

@@ -1,5 +1,5 @@
 use Rattle.bt_lines.proofs.Std.{◌≡◌, drop, list_all}
-use Rattle.bt_front.specs.calls.Chromosomes.{names_in}
+use Rattle.bt_front.specs.model.Extents.{names_in}
 use Rattle.bt_front.specs.model.Verdict.{is_named}
 use Rattle.bt_front.proofs.verdict.naming.are_named.Given as goal
 

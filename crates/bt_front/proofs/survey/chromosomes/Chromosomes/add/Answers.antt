@@ -1,6 +1,6 @@
 use Rattle.bt_lines.proofs.Std.{arith}
 use Rattle.bt_front.proofs.lemmas.survey.ChromosomeLemmas.{extents_push}
-use Rattle.bt_front.specs.calls.Chromosomes.{extents_in}
+use Rattle.bt_front.specs.model.Extents.{extents_in}
 use Rattle.bt_front.proofs.survey.chromosomes.Chromosomes.add.Goals as goal
 
 pub returns-in-Ok : goal.returns-in-Ok

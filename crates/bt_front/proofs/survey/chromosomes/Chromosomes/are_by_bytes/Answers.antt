@@ -1,6 +1,6 @@
 use Rattle.std.proofs.lemmas.Grind.{common_steps}
 use Rattle.bt_lines.proofs.Std.{arith, sym, ◌∙◌, ◌-◌}
-use Rattle.bt_front.specs.calls.Chromosomes.{names_in}
+use Rattle.bt_front.specs.model.Extents.{names_in}
 use Rattle.bt_front.proofs.lemmas.survey.ChromosomeLemmas.{all_ascend, ascend_more, one_falls}
 use Rattle.bt_front.proofs.survey.chromosomes.Chromosomes.are_by_bytes.Goals as goal
 

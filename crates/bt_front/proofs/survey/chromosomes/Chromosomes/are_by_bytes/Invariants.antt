@@ -1,4 +1,4 @@
-use Rattle.bt_front.specs.calls.Chromosomes.{names_in}
+use Rattle.bt_front.specs.model.Extents.{names_in}
 use Rattle.bt_front.proofs.lemmas.survey.ChromosomeLemmas.{AscendUpTo}
 use Rattle.bt_front.proofs.survey.chromosomes.Chromosomes.are_by_bytes.Given as goal
 

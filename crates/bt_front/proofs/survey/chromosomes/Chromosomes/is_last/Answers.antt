@@ -1,6 +1,6 @@
 use Rattle.std.proofs.lemmas.Grind.{common_steps}
 use Rattle.bt_lines.proofs.Std.{◌∙◌, arith}
-use Rattle.bt_front.specs.calls.Chromosomes.{names_in}
+use Rattle.bt_front.specs.model.Extents.{names_in}
 use Rattle.bt_front.proofs.lemmas.survey.ChromosomeLemmas.{last_at}
 use Rattle.bt_front.proofs.survey.chromosomes.Chromosomes.is_last.Goals as goal
 

@@ -1,6 +1,6 @@
 use Rattle.bt_lines.proofs.Std.{arith, sym, ◌-◌}
 use Rattle.bt_front.proofs.lemmas.survey.ChromosomeLemmas.{widened_at}
-use Rattle.bt_front.specs.calls.Chromosomes.{extents_in}
+use Rattle.bt_front.specs.model.Extents.{extents_in}
 use Rattle.bt_front.proofs.survey.chromosomes.Chromosomes.widen_last.Goals as goal
 
 pub returns-in-Some : goal.returns-in-Some
