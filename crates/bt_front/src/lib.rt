@@ -1,5 +1,5 @@
-//! What decides who takes a command line of bedtools: its words ([`Asked::of`]), and what a survey
-//! shows of its texts ([`Survey::read`]). Nothing calls them yet.
+//! What decides who takes a command line of bedtools: its words ([`Asked::of`]), what a survey shows
+//! of its texts ([`Survey::read`]), and the verdict on both ([`Asked::verdict`]). Nothing calls them yet.
 //!
 //! Words:
 //!
@@ -10,6 +10,7 @@
 //! - *survey*: what is in a text, by one pass of the reader that runs read it with.
 //! - *trouble*: why a text has no survey: an odd line, one that Dunekettle refuses, or a chromosome that
 //!   comes back after others.
+//! - *verdict*: by which order of chromosomes Dunekettle takes a command line, or why bedtools does.
 //! - *pour*: to hand on a stream to the program that takes it: what was kept of it, and then the rest.
 //!
 //! An example, which is the test in `example.rt`: two command lines, of which bedtools takes the
