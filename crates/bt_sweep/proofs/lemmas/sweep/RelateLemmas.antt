@@ -29,7 +29,7 @@ lie_last name (x ∷ before) b on = lie_last name before b on.1
 
 module _ (order : Order) (total : IsTotal order) (a : Feature) (known : order.knows a.chrom ≡ true) (name : List ℕ) (compared : order.compare name a.chrom ≡ Less) where
   undecided_before : (b : Feature) → b.chrom ≡ name → decides order a b ≡ false
-  undecided_before b on = ap (λ (c : Ordering). not (comes_first c (nat_lt b.start a.stop))) (ap (λ (c : List ℕ). order.compare c a.chrom) on ∙ compared)
+  undecided_before b on = ap (λ (c : Ordering). not (comes_first c (ltb b.start a.stop))) (ap (λ (c : List ℕ). order.compare c a.chrom) on ∙ compared)
 
   none_kept : (b : Feature) → b.chrom ≡ name → filter (is_held a) (b ∷ []) ≡ []
   none_kept b on = ap (λ (c : Bool). cond (c && ltb a.start b.stop) (b ∷ []) []) (name_ne a.chrom b.chrom (grind arith))
