@@ -54,7 +54,7 @@ limit_stops =
     → HoldsTooMany order most before a (map (λ m. m.item) (past ++ m ∷ []))
     → intersect_met order shape rule first (within_limit order (Some most) (items_in first) second)
     ≡ record {
-      lines = intersect shape rule before (map (λ m. m.item) (past ++ m ∷ []));
+      output = intersect shape rule before (map (λ m. m.item) (past ++ m ∷ []));
       fault = Some (fault_at_line Second m.line TooManyHeld);
     }
 
@@ -198,7 +198,7 @@ abbrev pub three_are_enough : Type 0
 three_are_enough =
     met_holding Cut 3 (two (at 0 100) (at 50 60) None) (three (at 10 20) (at 55 58) (at 90 95) None)
     ≡ record {
-      lines = codes "chr1\t10\t20\nchr1\t55\t58\nchr1\t90\t95\nchr1\t55\t58\n";
+      output = codes "chr1\t10\t20\nchr1\t55\t58\nchr1\t90\t95\nchr1\t55\t58\n";
       fault = None;
     }
 
