@@ -70,7 +70,7 @@ quiet_report : {A : Type 0} (written : Written A) (members : List A) (fault : Op
 quiet_report written members fault e = rw e refl
 
 met_by : (all : Bool) (one two : List ℕ) (first second : Option FaultValue) → first ≡ None → second ≡ None
-    → (cond all (record { output = one; fault = option_or first second }) (record { output = two; fault = second })).fault ≡ None
+    → (cond {A = Report} all (record { output = one; fault = option_or first second }) (record { output = two; fault = second })).fault ≡ None
 met_by true one two first second e f = rw (e, f) refl
 met_by false one two first second e f = f
 
