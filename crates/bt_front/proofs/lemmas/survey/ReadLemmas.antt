@@ -1,7 +1,7 @@
 -- Lemmas on surveying a source.
 use Rattle.bt_lines.proofs.Std.{arith, ◌≡◌, ◌∙◌, ◌⊎◌, ℕ, ◌++◌, [], Consumes, IfSome, IsAtEnd, IsSome, List, None, Option, Some, ap, append-nil, append_assoc, false, false≢true, inl, inr, is_some, list_all, option_map, refl, subst, sym, true}
 use Rattle.bt_lines.specs.calls.Device.{FailsAfter, ReadsOn, begun, gave}
-use Rattle.bt_lines.specs.calls.Reader.{Hands, fault_kept as line_fault, input_of, lines_left, source_of}
+use Rattle.bt_lines.specs.calls.Reader.{AreRead, Hands, IsReadFailed, fault_kept as line_fault, input_of, lines_left, source_of}
 use Rattle.bt_lines.specs.declared.fault.Input.{Input}
 use Rattle.bt_lines.specs.declared.fault.Input.TheVariants.{First}
 use Rattle.bt_lines.specs.declared.reader.line_reader.LineReader.{LineReader}
@@ -24,6 +24,18 @@ use Rattle.bt_front.specs.inside.Seeing.{HasSeenAll, StopsSeeing}
 use Rattle.bt_front.specs.inside.Watched.{BeginsOdd, EndsBy, FailsWatched, IsWatchedRead, ServesWatched, Shows, ShowsBy, watched_source}
 use Rattle.bt_front.specs.model.Odd.{IsOddLine, is_plain, raw_lines}
 use Rattle.bt_front.specs.model.Survey.{AreSeen, IsSurveyOf, read_of}
+
+-- ---- what a reader of lines says of its reads
+
+some_kept : (kept : Option FaultValue) → IsReadFailed kept → IsSome kept
+some_kept kept failed = ap is_some failed.2
+
+-- they all succeeded, or the last one failed and a fault is kept
+reads_either : {S : Type 0} (device : Source S) (old : LineReader S) (bytes : List ℕ) (new : LineReader S) → AreRead device old bytes new
+    → ReadsOn device.is_read (source_of old) bytes (source_of new) ⊎ (FailsAfter device.is_read (source_of old) bytes (source_of new) × IsSome (line_fault new))
+unfolding AreRead
+reads_either device old bytes new (inl served) = inl served.0
+reads_either device old bytes new (inr failed) = inr (failed.0, some_kept (line_fault new) failed.1)
 
 -- ---- the reads of a watched source are those of the source below, and the bytes are looked at
 
@@ -106,10 +118,10 @@ module _ {S : Type 0} (device : Source S) where
       handed =
           subst (λ (s : S). ReadsOn device.is_read source bytes s ⊎ FailsAfter device.is_read source bytes s) (sym same)
           (subst (λ (s : S). ReadsOn device.is_read s bytes (source_of (below new)).source ⊎ FailsAfter device.is_read s bytes (source_of (below new)).source) so.source_is
-          (handed_below device.is_read (source_of (below old)) (source_of (below new)) bytes (IsSome (line_fault (below new))) hands.reads))
+          (handed_below device.is_read (source_of (below old)) (source_of (below new)) bytes (IsSome (line_fault (below new))) (reads_either (watched_source device) (below old) bytes (below new) hands.reads)))
 
       shown : Shows bytes watched
-      shown = subst (λ (w : Watched S). Shows bytes w) (sym is) (shows_handed device.is_read (source_of (below old)) (source_of (below new)) bytes (IsSome (line_fault (below new))) hands.reads so.shows)
+      shown = subst (λ (w : Watched S). Shows bytes w) (sym is) (shows_handed device.is_read (source_of (below old)) (source_of (below new)) bytes (IsSome (line_fault (below new))) (reads_either (watched_source device) (below old) bytes (below new) hands.reads) so.shows)
 
       known_from : (text : List ℕ) → device.left source ≡ Some text → Consumes (Some text) (device.left (source_of (below new)).source) bytes
       known_from text known =
@@ -128,7 +140,7 @@ module _ {S : Type 0} (device : Source S) where
         let tells = λ (text : List ℕ) (known : device.left source ≡ Some text). told_of bytes sees.bytes.1 (λ good. (good.fault ≡ None) × AreSeen (items_in good) survey) sees.all text known in
         record {
           bytes = bytes;
-          served = all_served sees.bytes.1.reads;
+          served = all_served (reads_either (watched_source device) (below old) sees.bytes.0 (below new) sees.bytes.1.reads);
           told = rw same end.0;
           plain = lines;
           known = λ text known. (
