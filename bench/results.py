@@ -276,7 +276,7 @@ def by_command(kept):
         took = " | ".join(digits(example["runs"][program]["seconds"]) for program in ("dunekettle", "bedtools"))
         lines.append(f"| `{command}` | {spread([times_faster(row) for row in rows], digits)} | {SHOWN[command]} | {took} "
                      f"| {spread(ours, megabytes)} | {spread(theirs, megabytes)} |\n")
-    plain = [f"A [plain C program](plain_merge.c) that does nothing but {row['name']} takes {digits(row['runs']['plain C']['seconds'])} s.\n"
+    plain = [f"A [plain C program](plain_merge.c) that does only this ({row['name']}) takes {digits(row['runs']['plain C']['seconds'])} s.\n"
              for row in kept["workloads"] if "plain C" in row["runs"]]
     all_rows = f"[{RESULT_ROWS.name}]({RESULT_ROWS.name}) has each of the {len(kept['workloads'])} workloads.\n"
     return "".join(lines) + "".join(f"\n{line}" for line in [all_rows, *plain, bedops(kept), caption(kept)])
@@ -297,7 +297,7 @@ def bedops(kept):
     sentences = []
     for program, words in (("bedops", "`bedops --merge` takes"), ("convert2bed", "`convert2bed`, which writes more columns, takes")):
         took = [f"{digits(row['runs'][program]['seconds'])} s ({row['name']})" for row in kept["workloads"] if program in row["runs"]]
-        sentences += [f"{words} {', '.join(took)}."] if took else []
+        sentences += [f"{words} {' and '.join(took)}."] if took else []
     return " ".join(sentences) + "\n"
 
 
