@@ -36,7 +36,7 @@ const GOOD: [Good; 9] = [
 // What leaves a text to bedtools: the line, and how it is odd, what is wrong with it, or neither if a chromosome comes
 // back there.
 #[derive(Clone, Copy, Debug, PartialEq, Eq)]
-enum Why {
+enum Leaves {
     Odd(Oddity, u64),
     Wrong(Kind, u64),
     Back(u64),
@@ -44,23 +44,23 @@ enum Why {
 }
 
 #[rattlefmt::skip]
-const TROUBLE: [(&[u8], Why); 16] = [
-    (b"chr1\t5\t9\n\nchr1\t6\t9\n", Why::Odd(Oddity::Blank, 2)),
-    (b"chr1\t5\t9\n\r", Why::Odd(Oddity::Blank, 2)),
-    (b"\xef\xbb\xbfchr1\t5\t9\n", Why::Odd(Oddity::ByteOrderMark, 1)),
-    (b"##fileformat=VCFv4.2\n", Why::Odd(Oddity::Vcf, 1)),
-    (b"chr1\t5\t9\nchr1\t6\t9\t\0\n", Why::Odd(Oddity::Nul, 2)),
-    (b"chr1\t5\t9\nchr1\t6\n", Why::Wrong(Kind::TooFewColumns, 2)),
-    (b"#x\nchr1\t5\t9\nchr1\t4\t9\n", Why::Wrong(Kind::OutOfOrder, 3)),
-    (b"chr1\t5\t5\n", Why::Wrong(Kind::EmptyFeature, 1)),
-    (b"chr1\t5\t9\nchr2\t5\t9\n#x\nchr1\t6\t9\n", Why::Back(4)),
-    (b"chr1\t5\t9\nchr2\t5\t9\nchr1\t6\t9\nchr2\t0\t1\n", Why::Back(3)),
-    (b"Chrom\t5\t9\n", Why::Odd(Oddity::HeaderName, 1)),
-    (b"chr1\t5\t9\nbrowserX\t5\t9\n", Why::Odd(Oddity::HeaderName, 2)),
-    (b"chr1\t5\t9\n>\t5\t9\n", Why::Odd(Oddity::HeaderName, 2)),
-    (b"chr1\t0\t536870913\n", Why::Odd(Oddity::FarEnd, 1)),
-    (b"chr1\t0\t9\nchr1\t0\t536870913\nchr1\t1\t999999999999\n", Why::Odd(Oddity::FarEnd, 2)),
-    (b"Chrom\t5\t999999999\n", Why::Odd(Oddity::HeaderName, 1)),
+const TROUBLE: [(&[u8], Leaves); 16] = [
+    (b"chr1\t5\t9\n\nchr1\t6\t9\n", Leaves::Odd(Oddity::Blank, 2)),
+    (b"chr1\t5\t9\n\r", Leaves::Odd(Oddity::Blank, 2)),
+    (b"\xef\xbb\xbfchr1\t5\t9\n", Leaves::Odd(Oddity::ByteOrderMark, 1)),
+    (b"##fileformat=VCFv4.2\n", Leaves::Odd(Oddity::Vcf, 1)),
+    (b"chr1\t5\t9\nchr1\t6\t9\t\0\n", Leaves::Odd(Oddity::Nul, 2)),
+    (b"chr1\t5\t9\nchr1\t6\n", Leaves::Wrong(Kind::TooFewColumns, 2)),
+    (b"#x\nchr1\t5\t9\nchr1\t4\t9\n", Leaves::Wrong(Kind::OutOfOrder, 3)),
+    (b"chr1\t5\t5\n", Leaves::Wrong(Kind::EmptyFeature, 1)),
+    (b"chr1\t5\t9\nchr2\t5\t9\n#x\nchr1\t6\t9\n", Leaves::Back(4)),
+    (b"chr1\t5\t9\nchr2\t5\t9\nchr1\t6\t9\nchr2\t0\t1\n", Leaves::Back(3)),
+    (b"Chrom\t5\t9\n", Leaves::Odd(Oddity::HeaderName, 1)),
+    (b"chr1\t5\t9\nbrowserX\t5\t9\n", Leaves::Odd(Oddity::HeaderName, 2)),
+    (b"chr1\t5\t9\n>\t5\t9\n", Leaves::Odd(Oddity::HeaderName, 2)),
+    (b"chr1\t0\t536870913\n", Leaves::Odd(Oddity::FarEnd, 1)),
+    (b"chr1\t0\t9\nchr1\t0\t536870913\nchr1\t1\t999999999999\n", Leaves::Odd(Oddity::FarEnd, 2)),
+    (b"Chrom\t5\t999999999\n", Leaves::Odd(Oddity::HeaderName, 1)),
 ];
 
 const STEPS: [usize; 3] = [1, 7, 8192];
@@ -109,13 +109,13 @@ fn good_texts_are_seen(rt: HostRuntime) -> Result<(), Fail> {
     Ok(())
 }
 
-fn why(trouble: Trouble) -> Why {
+fn why(trouble: Trouble) -> Leaves {
     match trouble {
-        Trouble::Odd(OddLine { line, oddity }) => Why::Odd(oddity, line),
-        Trouble::ComesBack { line } => Why::Back(line),
+        Trouble::Odd(OddLine { line, oddity }) => Leaves::Odd(oddity, line),
+        Trouble::ComesBack { line } => Leaves::Back(line),
         Trouble::Refused(fault) => match fault.place {
-            Some(place) if place.input == Input::First => Why::Wrong(fault.kind, place.line),
-            _ => Why::Unplaced(fault.kind),
+            Some(place) if place.input == Input::First => Leaves::Wrong(fault.kind, place.line),
+            _ => Leaves::Unplaced(fault.kind),
         },
     }
 }
@@ -140,9 +140,9 @@ fn odd_bytes_of_a_block_are_found_first(rt: HostRuntime) -> Result<(), Fail> {
     let whole = survey(rt.alloc(), text, 8192, None)
         .err()
         .ok_or("a trouble")?;
-    assert_eq!(rt; why(whole), Why::Odd(Oddity::Blank, 4));
+    assert_eq!(rt; why(whole), Leaves::Odd(Oddity::Blank, 4));
     let pieces = survey(rt.alloc(), text, 1, None).err().ok_or("a trouble")?;
-    assert_eq!(rt; why(pieces), Why::Odd(Oddity::FarEnd, 2));
+    assert_eq!(rt; why(pieces), Leaves::Odd(Oddity::FarEnd, 2));
     Ok(())
 }
 
@@ -151,6 +151,6 @@ fn a_failed_read_is_told(rt: HostRuntime) -> Result<(), Fail> {
     let trouble = survey(rt.alloc(), b"chr1\t5\t9\nchr1\t6\t9\n", 3, Some(12))
         .err()
         .ok_or("a trouble")?;
-    assert_eq!(rt; why(trouble), Why::Wrong(Kind::ReadFailed, 2));
+    assert_eq!(rt; why(trouble), Leaves::Wrong(Kind::ReadFailed, 2));
     Ok(())
 }
