@@ -13,11 +13,20 @@ use std::test::Fail;
 pub(crate) fn chromosomes(alloc: Global, names: &str) -> Result<Chromosomes, AllocError> {
     let mut found = Chromosomes::new(alloc);
     for name in names.split(' ') {
-        if !name.is_empty() && found.place(name.as_bytes()).is_none() {
-            found.add(alloc, name.as_bytes(), Extent { start: 5, stop: 10 })?;
+        if !name.is_empty() {
+            add_new(alloc, name.as_bytes(), &mut found)?;
         }
     }
     Ok(found)
+}
+
+// Adds one that isn't among them.
+#[tactic(auto, using(crate::proofs::lemmas::survey::ChromosomeLemmas::ranked_among))]
+fn add_new(alloc: Global, name: &[u8], found: &mut Chromosomes) -> Result<(), AllocError> {
+    if found.place(name).is_some() {
+        return Ok(());
+    }
+    found.add(alloc, name, Extent { start: 5, stop: 10 })
 }
 
 // A genome file of these bytes.
