@@ -186,12 +186,19 @@ fn one_text_has_these_verdicts(rt: HostRuntime) -> Result<(), Fail> {
 
 #[test]
 fn two_texts_have_these_verdicts(rt: HostRuntime) -> Result<(), Fail> {
-    for (line, first, second, names, want) in &OF_TWO {
-        let first = survey(rt.alloc(), *first)?;
-        let second = survey(rt.alloc(), *second)?;
-        let got = verdict_of(rt.alloc(), line, &first, Some(&second), *names)?;
-        assert_eq!(rt; got, *want, "{line}");
+    for row in &OF_TWO {
+        have_this_verdict(&rt, rt.alloc(), row)?;
     }
+    Ok(())
+}
+
+// Whether the two texts of a row have its verdict.
+fn have_this_verdict(rt: &impl Abort, alloc: Global, row: &TwoRow) -> Result<(), Fail> {
+    let (line, first, second, names, want) = row;
+    let first = survey(alloc, *first)?;
+    let second = survey(alloc, *second)?;
+    let got = verdict_of(alloc, line, &first, Some(&second), *names)?;
+    assert_eq!(rt; got, *want, "{line}");
     Ok(())
 }
 
