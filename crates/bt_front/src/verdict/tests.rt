@@ -176,11 +176,18 @@ fn verdict_of(
 
 #[test]
 fn one_text_has_these_verdicts(rt: HostRuntime) -> Result<(), Fail> {
-    for (line, text, names, want) in &OF_ONE {
-        let text = survey(rt.alloc(), *text)?;
-        let got = verdict_of(rt.alloc(), line, &text, None, *names)?;
-        assert_eq!(rt; got, *want, "{line}");
+    for row in &OF_ONE {
+        has_this_verdict(&rt, rt.alloc(), row)?;
     }
+    Ok(())
+}
+
+// Whether the text of a row has its verdict.
+fn has_this_verdict(rt: &impl Abort, alloc: Global, row: &OneRow) -> Result<(), Fail> {
+    let (line, text, names, want) = row;
+    let text = survey(alloc, *text)?;
+    let got = verdict_of(alloc, line, &text, None, *names)?;
+    assert_eq!(rt; got, *want, "{line}");
     Ok(())
 }
 
