@@ -8,7 +8,8 @@ bedtools has doesn't say what it does, and one that only Dunekettle has says not
 `required`, or `this or -x` if one of several is required.
 
 Others get the table from here: completions.py for help and completions, manuals.py for manual pages, migrating.py for
-MIGRATING.md, and plain.py of tests/program/. tests/pages/test_options.py compares it with the tables of the program.
+MIGRATING.md, and plain.py of tests/program/. The program's own tables aren't made of it, so that what is proved stands
+by itself: tests/pages/test_options.py compares them.
 """
 
 import re
