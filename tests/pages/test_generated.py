@@ -11,9 +11,10 @@ import migrating
 import model
 import pictures
 import recipe_table
+import verdict
 from files import TOP, read
 
-TOOLS = (completions, manuals, migrating, model, pictures, recipe_table)
+TOOLS = (completions, manuals, migrating, model, pictures, recipe_table, verdict)
 
 
 class Made(NamedTuple):
