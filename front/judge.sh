@@ -9,8 +9,8 @@
 
 # Larger than any end
 dk_far=999999999999
-# A byte order mark, the first bytes of gzip, and CR
-dk_mark=$(printf '\357\273\277 \037\213 \r')
+# A byte order mark, the byte by which bedtools knows gzip, and CR
+dk_mark=$(printf '\357\273\277 \037 \r')
 dk_zipped=${dk_mark#* } dk_cr=${dk_mark##* }
 dk_mark=${dk_mark%% *} dk_zipped=${dk_zipped% *}
 dk_kilobyte=xxxx

@@ -66,7 +66,7 @@ def fill(folder):
     even = "".join(f"c\t{n}0\t{n}5\n".replace("\t", "\t0", 2) for n in range(1001, 9001))
     Path(folder, "even.bed").write_text(even, encoding="utf-8")
     Path(folder, "f.bed.gz").write_bytes(gzip.compress(FILES["f.bed"].encode()))
-    Path(folder, "magic.bed").write_bytes(b"\x1f\x8b\t2\t6\n")
+    Path(folder, "magic.bed").write_bytes(b"\x1fx\t2\t6\n")
     Path(folder, "at_zero.bam").write_bytes(base64.b64decode(AT_ZERO))
     Path(folder, "many.bed").write_text("chr1\t2\t6\n" * 100_000, encoding="utf-8")
     Path(folder, "pile.bed").write_text("chr1\t2\t6\n" * 1_000_010, encoding="utf-8")

@@ -12,9 +12,10 @@ import model
 import options
 import pictures
 import recipe_table
+import verdict
 from files import TOP, read
 
-TOOLS = (completions, manuals, migrating, model, options, pictures, recipe_table)
+TOOLS = (completions, manuals, migrating, model, options, pictures, recipe_table, verdict)
 # Where the kit is named.
 NAMING_KIT = ("README.md", "Makefile", "docs/PROVED.md", "packaging/copyright", "packaging/sbom.spdx.json")
 

@@ -21,9 +21,9 @@ is_only_return watch = (watch.line == 1) && (watch.last == 13)
 abbrev pub is_blank_end : ByteWatch → Bool
 is_blank_end watch = (watch.line == 0) || is_only_return watch
 
--- whether the text begins as a gzip file
+-- whether bedtools takes the text for a gzip file, by its first byte
 abbrev pub is_gzip_at : ByteWatch → ℕ → Bool
-is_gzip_at watch byte = watch.is_first && ((watch.line == 1) && ((watch.first == 31) && (byte == 139)))
+is_gzip_at watch byte = watch.is_first && ((watch.line == 0) && (byte == 31))
 
 -- whether it begins with a byte order mark
 abbrev pub is_mark_at : ByteWatch → ℕ → Bool

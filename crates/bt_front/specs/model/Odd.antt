@@ -47,7 +47,7 @@ is_odd Nul line = list_any (λ byte. byte == 0) line.bytes
 is_odd Long line = nat_lt 1023 (length line.bytes)
 is_odd Vcf line = begins_with (codes "##fileformat=VCF") line.bytes
 is_odd ByteOrderMark line = (line.number == 1) && begins_with (239 ∷ 187 ∷ 191 ∷ []) line.bytes
-is_odd Gzip line = (line.number == 1) && begins_with (31 ∷ 139 ∷ []) line.bytes
+is_odd Gzip line = (line.number == 1) && begins_with (31 ∷ []) line.bytes
 is_odd HeaderName line = false
 is_odd FarEnd line = false
 

@@ -226,7 +226,7 @@ impl ByteWatch {
             Some(Oddity::Long)
         } else if self.next_vcf(byte) == VCF_LENGTH {
             Some(Oddity::Vcf)
-        } else if self.is_first && self.line == 1 && self.first == 0x1f && byte == 0x8b {
+        } else if self.is_first && self.line == 0 && byte == 0x1f {
             Some(Oddity::Gzip)
         } else if self.is_first
             && self.line == 2

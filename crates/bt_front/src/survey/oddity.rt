@@ -15,7 +15,7 @@ pub enum Oddity {
     Vcf,
     /// The text begins with a byte order mark, which bedtools refuses.
     ByteOrderMark,
-    /// The text begins as a gzip file.
+    /// The text begins with the byte 1f, by which bedtools takes it for a gzip file.
     Gzip,
     /// Its chromosome's name is one that bedtools may pass over, as a header line's first word.
     HeaderName,

@@ -69,11 +69,11 @@ pub vcf_quiet : (w : ByteWatch) (b : ℕ) → QuietHead w b → next_vcf w b ≡
 vcf_quiet w b head = vcf_next w.vcf w.line b head.vcf head.hash
 
 -- a text that may not begin so doesn't
-not_begun : (first_line : Bool) (line first b : ℕ) (rest : Bool) → (first_line && may_begin (if line == 0 then b else first)) ≡ false
-    → (first_line && ((line == 1) && ((first == 31) && rest))) ≡ false
-not_begun false line first b rest e = refl
-not_begun true zero first b rest e = refl
-not_begun true (suc line) first b rest e = rw ((or_parts (first == 31) (first == 239) (rw (suc_zero line) at e)).0) (nothing (suc line == 1))
+not_begun : (first_line : Bool) (line first b : ℕ) → (first_line && may_begin (if line == 0 then b else first)) ≡ false
+    → (first_line && ((line == 0) && (b == 31))) ≡ false
+not_begun false line first b e = refl
+not_begun true zero first b e = (or_parts (b == 31) (b == 239) e).0
+not_begun true (suc line) first b e = rw (suc_zero line) refl
 
 not_marked : (first_line : Bool) (line first b : ℕ) (rest : Bool) → (first_line && may_begin (if line == 0 then b else first)) ≡ false
     → (first_line && ((line == 2) && ((first == 239) && rest))) ≡ false
@@ -96,7 +96,7 @@ none_in_line : (w : ByteWatch) (b : ℕ) → QuietHead w b → w.line ≤ 1022 �
 none_in_line w b head short =
     chain_none (b == 0) ((b == 13) && (w.last == 13)) (nat_lt 1022 w.line) (next_vcf w b == 16) (is_gzip_at w b) (is_mark_at w b)
     head.nul (no_return (b == 13) (w.last == 13) head.return) (above_not 1022 w.line short) (ap (λ (n : ℕ). n == 16) (vcf_quiet w b head))
-    (not_begun w.is_first w.line w.first b (b == 139) head.begun) (not_marked w.is_first w.line w.first b ((w.last == 187) && (b == 191)) head.begun)
+    (not_begun w.is_first w.line w.first b head.begun) (not_marked w.is_first w.line w.first b ((w.last == 187) && (b == 191)) head.begun)
 
 long_in_line : (w : ByteWatch) (b : ℕ) → QuietHead w b → 1022 < w.line → odd_in_line w b ≡ Some Long
 long_in_line w b head long =

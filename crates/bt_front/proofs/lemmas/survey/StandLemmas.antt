@@ -25,7 +25,7 @@ record SoFar (number : ℕ) (l : List ℕ) : Type 0 where
   long : nat_lt 1023 (length l) ≡ false
   vcf : begins_with (codes "##fileformat=VCF") l ≡ false
   mark : ((number == 1) && begins_with (239 ∷ 187 ∷ 191 ∷ []) l) ≡ false
-  gzip : ((number == 1) && begins_with (31 ∷ 139 ∷ []) l) ≡ false
+  gzip : ((number == 1) && begins_with (31 ∷ []) l) ≡ false
 
 not_so : (b : Bool) → not b ≡ true → b ≡ false
 not_so true e = sym e
@@ -47,13 +47,13 @@ six_not d u g v z k a b c e f h = rw (a, b, c, e, f, h) refl
 so_far_parts : (n : ℕ) (l : List ℕ) → is_plain_so_far (line_of n l) ≡ true → SoFar n l
 so_far_parts n l e =
     let p = six_parts (has_double_return l) (list_any (λ byte. byte == 0) l) (nat_lt 1023 (length l)) (begins_with (codes "##fileformat=VCF") l)
-    ((n == 1) && begins_with (239 ∷ 187 ∷ 191 ∷ []) l) ((n == 1) && begins_with (31 ∷ 139 ∷ []) l) e in
+    ((n == 1) && begins_with (239 ∷ 187 ∷ 191 ∷ []) l) ((n == 1) && begins_with (31 ∷ []) l) e in
     record { double = p.0; nul = p.1; long = p.2; vcf = p.3; mark = p.4; gzip = p.5 }
 
 so_far_is : (n : ℕ) (l : List ℕ) → SoFar n l → is_plain_so_far (line_of n l) ≡ true
 so_far_is n l s =
     six_not (has_double_return l) (list_any (λ byte. byte == 0) l) (nat_lt 1023 (length l)) (begins_with (codes "##fileformat=VCF") l)
-    ((n == 1) && begins_with (239 ∷ 187 ∷ 191 ∷ []) l) ((n == 1) && begins_with (31 ∷ 139 ∷ []) l) s.double s.nul s.long s.vcf s.mark s.gzip
+    ((n == 1) && begins_with (239 ∷ 187 ∷ 191 ∷ []) l) ((n == 1) && begins_with (31 ∷ []) l) s.double s.nul s.long s.vcf s.mark s.gzip
 
 -- What the line has with one byte more.
 
@@ -63,7 +63,7 @@ pub record NextIs (n : ℕ) (l : List ℕ) (w : ByteWatch) (b : ℕ) : Type 0 wh
   pub long : nat_lt 1023 (length (l ++ b ∷ [])) ≡ nat_lt 1022 w.line
   pub vcf : begins_with (codes "##fileformat=VCF") (l ++ b ∷ []) ≡ (next_vcf w b == 16)
   pub mark : ((n == 1) && begins_with (239 ∷ 187 ∷ 191 ∷ []) (l ++ b ∷ [])) ≡ is_mark_at w b
-  pub gzip : ((n == 1) && begins_with (31 ∷ 139 ∷ []) (l ++ b ∷ [])) ≡ is_gzip_at w b
+  pub gzip : ((n == 1) && begins_with (31 ∷ []) (l ++ b ∷ [])) ≡ is_gzip_at w b
 
 and_swap : (a b : Bool) → (a && b) ≡ (b && a)
 and_swap true true = refl
@@ -112,10 +112,10 @@ next_is n l w b s =
           ∙ and_or_new (n == 1) (begins_with (239 ∷ 187 ∷ 191 ∷ []) l) (grows (239 ∷ 187 ∷ 191 ∷ []) l b && (suc (length l) == 3)) p.mark
           ∙ ap (λ (t : Bool). (n == 1) && t) (mark_push l b)
           ∙ rw (s.is_first, s.line, s.last) (guarded (n == 1) _ _ (λ one. guarded (length l == 2) _ _ (λ two. rw (head one (some_length l 1 two)) refl)));
-      gzip = ap (λ (t : Bool). (n == 1) && t) (begins_push (31 ∷ 139 ∷ []) l b)
-          ∙ and_or_new (n == 1) (begins_with (31 ∷ 139 ∷ []) l) (grows (31 ∷ 139 ∷ []) l b && (suc (length l) == 2)) p.gzip
+      gzip = ap (λ (t : Bool). (n == 1) && t) (begins_push (31 ∷ []) l b)
+          ∙ and_or_new (n == 1) (begins_with (31 ∷ []) l) (grows (31 ∷ []) l b && (suc (length l) == 1)) p.gzip
           ∙ ap (λ (t : Bool). (n == 1) && t) (gzip_push l b)
-          ∙ rw (s.is_first, s.line) (guarded (n == 1) _ _ (λ one. guarded (length l == 1) _ _ (λ two. rw (head one (some_length l 0 two)) refl)));
+          ∙ rw (s.is_first, s.line) refl;
     }
 
 -- The tests of a watch, one after the other.
@@ -219,7 +219,7 @@ still_odd n l more w b now Nul e = any_more (λ byte. byte == 0) (l ++ b ∷ [])
 still_odd n l more w b now Long e = long_more (l ++ b ∷ []) more (now.long ∙ e)
 still_odd n l more w b now Vcf e = begins_more (codes "##fileformat=VCF") (l ++ b ∷ []) more (now.vcf ∙ e)
 still_odd n l more w b now ByteOrderMark e = and_more (n == 1) _ _ (begins_more (239 ∷ 187 ∷ 191 ∷ []) (l ++ b ∷ []) more) (now.mark ∙ e)
-still_odd n l more w b now Gzip e = and_more (n == 1) _ _ (begins_more (31 ∷ 139 ∷ []) (l ++ b ∷ []) more) (now.gzip ∙ e)
+still_odd n l more w b now Gzip e = and_more (n == 1) _ _ (begins_more (31 ∷ []) (l ++ b ∷ []) more) (now.gzip ∙ e)
 still_odd n l more w b now HeaderName e = absurd (cc)
 still_odd n l more w b now FarEnd e = absurd (cc)
 
