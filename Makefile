@@ -147,6 +147,7 @@ generated: pictures
 	tools/migrating.py
 	tools/recipe_table.py
 	tools/model.py
+	tools/verdict.py
 
 completions: generated
 
