@@ -9,7 +9,8 @@ pub enum Oddity {
     DoubleReturn,
     /// It has a NUL, after which bedtools leaves out the rest of the column.
     Nul,
-    /// It has more than 1,023 bytes, after which bedtools cuts lines of some numbers of columns.
+    /// It has more than 1,015 bytes. bedtools cuts lines of some numbers of columns after 1,023 bytes as it writes them, when a
+    /// start may have eight digits more.
     Long,
     /// It begins as the first line of VCF, so that bedtools reads the text as VCF.
     Vcf,

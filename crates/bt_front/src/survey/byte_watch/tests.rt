@@ -76,8 +76,8 @@ fn long_line(alloc: Global, length: u64) -> Result<Vec<u8>, AllocError> {
 
 #[test]
 fn long_lines_are_found(rt: HostRuntime) -> Result<(), Fail> {
-    let longest = long_line(rt.alloc(), 1023)?;
-    let longer = long_line(rt.alloc(), 1024)?;
+    let longest = long_line(rt.alloc(), 1015)?;
+    let longer = long_line(rt.alloc(), 1016)?;
     for size in &SIZES {
         assert_eq!(rt; odd_of(longest.as_slice(), *size), None, "{size}");
         assert_eq!(rt;
