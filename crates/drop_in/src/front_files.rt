@@ -1,6 +1,6 @@
 //! The files of a run whose inputs were looked at before.
 
-ghost use Rattle.std.specs.Prelude.{None, false, ⊤};
+ghost use Rattle.std.specs.Prelude.{◌≡◌};
 
 use bt_files::{Files, Unopened};
 use bt_lines::{DeviceFailed, FromRead, Source};
@@ -17,20 +17,28 @@ pub enum FrontInput<I> {
 }
 
 impl<I> FrontInput<I> {
+    ghost use Rattle.drop_in.specs.calls.Inputs.{HasText};
+
     /// An input that gives this text.
-    pub fn kept(text: Vec<u8>) -> FrontInput<I> {
-        FrontInput::Kept(FromRead::new(Cursor::new(text)))
+    pub fn kept(text: Vec<u8>) -> FrontInput<I>
+        ensures { HasText result text.items }
+    {
+        let cursor = Cursor::new(text);
+        let source = FromRead::new(cursor);
+        FrontInput::Kept(source)
     }
 }
 
 impl<I: Source> Source for FrontInput<I> {
-    ghost left = { λ _. None };
+    ghost use Rattle.drop_in.specs.calls.Inputs.{IsFrontRead, front_end_told, front_has_failed, front_left};
 
-    ghost has_failed = { λ _. false };
+    ghost left = { front_left I.Source };
 
-    ghost end_told = { λ _. false };
+    ghost has_failed = { front_has_failed I.Source };
 
-    ghost is_read = { λ before call after. ⊤ };
+    ghost end_told = { front_end_told I.Source };
+
+    ghost is_read = { IsFrontRead I.Source };
 
     fn read(&mut self, block: &mut [u8]) -> Result<usize, DeviceFailed> {
         match self {
@@ -62,11 +70,13 @@ impl<I: Source + Drop, F: Files<Input = I>> Files for FrontFiles<F, I> {
 
     type Output = F::Output;
 
-    ghost opens = { λ before name input after. ⊤ };
+    ghost use Rattle.drop_in.specs.calls.Inputs.{CreatesBelow, OpensNext, RefusesBelow};
 
-    ghost creates = { λ before name output after. ⊤ };
+    ghost opens = { OpensNext };
 
-    ghost refuses = { λ before name after. ⊤ };
+    ghost creates = { CreatesBelow F.Files };
+
+    ghost refuses = { RefusesBelow F.Files };
 
     fn open(&mut self, _name: &str) -> Result<FrontInput<I>, Unopened> {
         if let Some(input) = self.genome.take() {

@@ -1,11 +1,16 @@
 //! The line that says who takes a call.
 
+ghost use Rattle.std.specs.Prelude.{◌≡◌, IfOk};
+ghost use Rattle.drop_in.specs.model.Line.{line_text};
+
 use itoa::Buffer;
 use std::alloc::{AllocError, Global};
 
 /// Who takes a call.
 #[derive(Clone, Copy, Debug)]
 pub enum Line<'a> {
+    /// It isn't known yet, and the first byte of a stream is about to be read.
+    Begins,
     /// Dunekettle does, and its output begins.
     Dunekettle,
     /// The bedtools of this path, with the words as they came.
@@ -19,8 +24,11 @@ pub enum Line<'a> {
 
 impl Line<'_> {
     /// The line, with its line feed.
-    pub fn text(&self, alloc: Global) -> Result<Vec<u8>, AllocError> {
+    pub fn text(&self, alloc: Global) -> Result<Vec<u8>, AllocError>
+        ensures { IfOk result (λ line. line.items ≡ line_text self.now) }
+    {
         match self {
+            Line::Begins => Vec::from_slice(alloc, b"r\n"),
             Line::Dunekettle => Vec::from_slice(alloc, b"d\n"),
             Line::Shell => Vec::from_slice(alloc, b"t\n"),
             Line::Original(path) => {

@@ -1,10 +1,12 @@
 //! What is in the inputs of a call, and what its run reads of them.
 
+ghost use Rattle.std.specs.Prelude.{IfErr, IfOk};
+ghost use Rattle.drop_in.specs.calls.Looks.{LeavesFileAt, LeavesStreamAt, SeesFile, SeesStream, SurveysStream};
+
 use crate::why::Why;
-use bt_bed::Genome;
 use bt_files::{Files, Unopened};
 use bt_front::{Keeping, OddLine, Oddity, Survey, Trouble};
-use bt_lines::{Input, LineReader, without_return};
+use bt_lines::{Input, Source};
 use std::alloc::Global;
 
 /// A stream of which some was read.
@@ -22,14 +24,7 @@ pub struct Left<I> {
     pub stream: Option<ReadStream<I>>,
 }
 
-impl<I> Left<I> {
-    /// Nothing was read of a stream.
-    pub fn unread(why: Why) -> Left<I> {
-        Left { why, stream: None }
-    }
-}
-
-/// Where the run of a call reads an input.
+/// What the run of a call reads of an input.
 #[derive(Drop)]
 pub enum Reading<I> {
     /// A file that was opened again.
@@ -45,66 +40,62 @@ pub struct Seen<I> {
     pub reading: Reading<I>,
 }
 
-/// Looks at an input. A file is opened again for the run.
-pub fn look_at<F: Files>(
+/// Looks at a file, and opens it again for the run.
+pub fn look_at_file<F: Files>(
     alloc: Global,
     files: &mut F,
     name: &str,
     input: Input,
-    room: Option<usize>,
-) -> Result<Seen<F::Input>, Left<F::Input>> {
-    match room {
-        Some(room) => look_at_stream(alloc, files, name, input, room),
-        None => match look_at_file(alloc, files, name, input) {
-            Ok(seen) => Ok(seen),
-            Err(why) => Err(Left::unread(why)),
-        },
+) -> Result<Seen<F::Input>, Why>
+    ensures sees { IfOk result (λ seen. SeesFile F.Files F.Input.Source files.old name.now seen files.new) }
+    ensures leaves { IfErr result (λ why. LeavesFileAt F.Files files.old name.now files.new) }
+{
+    let source = match open(files, name, input) {
+        Ok(source) => source,
+        Err(why) => return Err(why),
+    };
+    let (surveyed, _source) = Survey::read(alloc, source);
+    let survey = match surveyed {
+        Ok(survey) => survey,
+        Err(trouble) => return Err(file_why(input, trouble)),
+    };
+    match open(files, name, input) {
+        Ok(again) => Ok(Seen {
+            survey,
+            reading: Reading::File(again),
+        }),
+        Err(why) => Err(why),
     }
 }
 
-fn look_at_file<F: Files>(
-    alloc: Global,
-    files: &mut F,
-    name: &str,
-    input: Input,
-) -> Result<Seen<F::Input>, Why> {
-    let source = open(files, name, input)?;
-    let (seen, _source) = Survey::read(alloc, source);
-    match seen {
-        Ok(survey) => {
-            let again = open(files, name, input)?;
-            Ok(Seen {
-                survey,
-                reading: Reading::File(again),
-            })
-        }
-        Err(
-            Trouble::Odd(
-                OddLine {
-                    oddity: Oddity::Gzip,
-                    ..
-                },
-            ),
-        ) => Err(Why::Zipped(input)),
-        Err(trouble) => Err(Why::Text(input, trouble)),
+// Why a file is left.
+fn file_why(input: Input, trouble: Trouble) -> Why {
+    match trouble {
+        Trouble::Odd(OddLine {
+            oddity: Oddity::Gzip,
+            ..
+        }) => Why::Zipped(input),
+        _ => Why::Text(input, trouble),
     }
 }
 
-fn look_at_stream<F: Files>(
+/// Looks at a stream, of which as many bytes are kept as there is room for.
+pub fn look_at_stream<F: Files>(
     alloc: Global,
     files: &mut F,
     name: &str,
     input: Input,
     room: usize,
-) -> Result<Seen<F::Input>, Left<F::Input>> {
+) -> Result<Seen<F::Input>, Left<F::Input>>
+    ensures sees { IfOk result (λ seen. SeesStream F.Files F.Input.Source files.old name.now seen files.new) }
+    ensures leaves { IfErr result (λ left. LeavesStreamAt F.Files F.Input.Source files.old name.now left.stream files.new) }
+{
     let source = match open(files, name, input) {
         Ok(source) => source,
-        Err(why) => return Err(Left::unread(why)),
+        Err(why) => return Err(Left { why, stream: None }),
     };
-    let (seen, keeping) = Survey::read(alloc, Keeping::new(alloc, source, room));
-    let (source, kept) = keeping.into_parts();
-    let stream = ReadStream { source, kept };
-    match seen {
+    let (surveyed, stream) = survey_stream(alloc, source, room);
+    match surveyed {
         Ok(survey) => Ok(Seen {
             survey,
             reading: Reading::Stream(stream),
@@ -116,43 +107,24 @@ fn look_at_stream<F: Files>(
     }
 }
 
-// Opens an input.
-fn open<F: Files>(files: &mut F, name: &str, input: Input) -> Result<F::Input, Why> {
+// Surveys a stream, which is kept.
+fn survey_stream<I: Source>(alloc: Global, source: I, room: usize) -> (Result<Survey, Trouble>, ReadStream<I>)
+    ensures { SurveysStream I.Source source result.1 result.0 }
+{
+    let keeping = Keeping::new(alloc, source, room);
+    let (surveyed, keeping) = Survey::read(alloc, keeping);
+    let (source, kept) = keeping.into_parts();
+    (surveyed, ReadStream { source, kept })
+}
+
+/// Opens an input.
+pub fn open<F: Files>(files: &mut F, name: &str, input: Input) -> Result<F::Input, Why>
+    ensures opens { IfOk result (λ opened. F.opens files.old name.now opened files.new) }
+    ensures refuses { IfErr result (λ why. F.refuses files.old name.now files.new) }
+{
     match files.open(name) {
         Ok(source) => Ok(source),
         Err(Unopened::NoMemory) => Err(Why::NoMemory),
         Err(Unopened::Refused) => Err(Why::Unopened(input)),
     }
-}
-
-/// A genome file: its chromosomes, and its text.
-#[derive(Drop)]
-pub struct GenomeFile {
-    pub genome: Genome,
-    pub text: Vec<u8>,
-}
-
-/// Reads a genome file.
-pub fn read_genome<F: Files>(alloc: Global, files: &mut F, name: &str) -> Result<GenomeFile, Why> {
-    let source = open(files, name, Input::Genome)?;
-    let keeping = Keeping::new(alloc, source, usize::MAX);
-    let mut lines = LineReader::new(alloc, keeping, Input::Genome);
-    let read = Genome::read(alloc, &mut lines);
-    let (_source, text) = lines.into_source().into_parts();
-    match read {
-        Ok(_) if has_tab_in_comment(text.as_slice()) => Err(Why::TabInComment),
-        Ok(genome) => Ok(GenomeFile { genome, text }),
-        Err(fault) => Err(Why::Genome(fault)),
-    }
-}
-
-// Whether a comment of a genome file has a tab.
-fn has_tab_in_comment(text: &[u8]) -> bool {
-    for line in text.split(|byte| *byte == b'\n') {
-        let line = without_return(line);
-        if line.first() == Some(&b'#') && line.contains(&b'\t') {
-            return true;
-        }
-    }
-    false
 }

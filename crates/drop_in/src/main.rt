@@ -1,36 +1,50 @@
-//! `drop_in`: decides who takes a command line of bedtools, and runs it if Dunekettle does.
+//! `drop_in`: decides who takes a call of bedtools, and runs it if Dunekettle does.
 //!
-//! Its words: the number of a descriptor that is open for writing, and then those of the command line. It writes a line there
-//! ([`line::Line`]), and is started by the script that is named `bedtools`.
+//! Its words are the number of a descriptor that is open for writing, and then those of the call. It writes a line there
+//! ([`line::Line`]). The script that is named `bedtools` starts it and reads that line.
+//!
+//! Words:
+//!
+//! - *call*: a command line of bedtools, with the standard streams that it has.
+//! - *stream*: an input that can be read only once, as standard input or a named pipe.
+//! - *take*: to run a call here. What isn't taken is *left*: to the bedtools on PATH, or to the drop-in of the shell.
+//! - *line*: what says who takes a call.
 #![tactic(auto)]
 
 mod answering;
 mod front_files;
+mod genome_file;
+mod leaving;
 mod line;
 mod looks;
+mod marks;
 mod naming;
 mod original;
+#[cfg(test)]
+mod original_tests;
+mod programs;
 mod system;
+mod system_programs;
 mod versions;
 mod why;
 mod words;
 
-use answering::{Answer, answer};
+use answering::{Answered, Streams, answer};
 use bt_files::{Finished, Opened, Output, StandIns, SystemFiles};
-use bt_front::{Unpoured, pour};
-use bt_lines::{Input, Out, Sink, ToWrite};
-use bt_tool::{Command, Plan};
+use bt_lines::{Input, Sink};
+use bt_tool::Plan;
 use front_files::FrontInput;
-use line::Line;
-use looks::{Left, ReadStream};
+use leaving::{Call, Cause, Heir};
 use naming::is_of_standard_input;
+use original::Original;
 use std::env::Env;
 use std::fs::File;
 use std::process::ExitCode;
 use std::{env, io};
-use system::{DropInFiles, find_original, open_pipe, room, say, streams_of, tell, writes_to_pipe};
-use versions::is_for_any_version;
-use why::{Taker, Why};
+use system::{DropInFiles, find_original, open_pipe, room, streams_of, writes_to_pipe};
+use system_programs::SystemPrograms;
+use versions::{is_for_any_version, is_known_version};
+use why::Why;
 use words::{Request, option_of, value_place};
 
 // The status of a run whose output has no reader any more.
@@ -46,6 +60,7 @@ fn main(rt: HostRuntime) -> ExitCode {
     ExitCode::from(status)
 }
 
+// Opens the pipe for the line, and answers the call.
 fn start(rt: &HostRuntime) -> u8 {
     let Ok(number) = descriptor(rt) else {
         return 1;
@@ -54,8 +69,11 @@ fn start(rt: &HostRuntime) -> u8 {
         return 1;
     };
     match call_words(rt) {
-        Ok(words) => answer_call(rt, pipe, words.as_slice()),
-        Err(_) => leave(rt, pipe, &[], Left::unread(Why::NotUnicode), 0, ""),
+        Ok(words) => {
+            let words = words.as_slice();
+            answer_call(&Call { rt, words }, pipe)
+        }
+        Err(_) => Call { rt, words: &[] }.leave(pipe, cause_of(Why::NotUnicode)),
     }
 }
 
@@ -72,7 +90,7 @@ fn descriptor(rt: &HostRuntime) -> io::Result<String> {
     Ok(number)
 }
 
-// The words behind it.
+// The words after it.
 fn call_words(rt: &HostRuntime) -> io::Result<Vec<String>> {
     let mut all = Vec::new(rt.alloc());
     for word in env::args(rt)?.skip(2) {
@@ -81,40 +99,104 @@ fn call_words(rt: &HostRuntime) -> io::Result<Vec<String>> {
     Ok(all)
 }
 
-fn answer_call(rt: &HostRuntime, pipe: File, words: &[String]) -> u8 {
-    let request = match request_of(rt, words) {
+// A cause that no input is.
+fn cause_of(why: Why) -> Cause<'static> {
+    Cause { why, name: "" }
+}
+
+fn answer_call(call: &Call<'_>, pipe: File) -> u8 {
+    let request = match Request::of(call.rt.alloc(), call.words) {
         Ok(request) => request,
-        Err(why) => return leave(rt, pipe, words, Left::unread(why), 0, ""),
+        Err(why) => return call.leave(pipe, cause_of(why)),
     };
-    let streams = streams_of(rt, &request.plan);
-    if (streams.first || streams.second) && !matches!(find_original(rt), Ok(Some(_))) {
-        return leave(rt, pipe, words, Left::unread(Why::NoOriginal), 0, "");
+    let streams = streams_of(call.rt, &request.plan);
+    if let Some(why) = why_unknown(call.rt, &request) {
+        return call.leave(pipe, cause_of(why));
     }
-    let Some(room) = room(rt) else {
-        return leave(rt, pipe, words, Left::unread(Why::Room), 0, "");
-    };
-    let place = stream_place(words, &request.plan, streams.second);
-    let Ok(command) = String::from_str(rt.alloc(), request.plan.command.name()) else {
-        return leave(rt, pipe, words, Left::unread(Why::NoMemory), 0, "");
-    };
-    let Ok(names) = names_of(rt, &request.plan) else {
-        return leave(rt, pipe, words, Left::unread(Why::NoMemory), 0, "");
+    if !streams.first && !streams.second {
+        return answer_files(call, pipe, request, streams);
+    }
+    match find_original(call.rt) {
+        Original::Named(path) => answer_stream(call, pipe, request, streams, path.as_str()),
+        Original::Missing | Original::Unclear => call.leave(pipe, cause_of(Why::NoOriginal)),
+    }
+}
+
+// Why the bedtools on PATH takes the words of a request: it isn't of a version that all was compared with. If the shell takes
+// the call anyway, it looks for that itself.
+fn why_unknown(rt: &HostRuntime, request: &Request) -> Option<Why> {
+    if request.orders_hits() || is_for_any_version(request.plan.command, request.is_sorted) {
+        return None;
+    }
+    match find_original(rt) {
+        Original::Named(path) => match is_known_version(&SystemPrograms { rt }, path.as_str()) {
+            Ok(true) => None,
+            _ => Some(Why::Version),
+        },
+        Original::Missing | Original::Unclear => None,
+    }
+}
+
+// Answers a call without a stream.
+fn answer_files(call: &Call<'_>, pipe: File, request: Request, streams: Streams) -> u8 {
+    let Ok(names) = InputNames::of(call.rt, &request.plan) else {
+        return call.leave(pipe, cause_of(Why::NoMemory));
     };
     let files = DropInFiles {
-        system: SystemFiles { rt },
+        system: SystemFiles { rt: call.rt },
         pipe,
-        command,
+        command: request.plan.command.name(),
     };
-    let (answered, files) = answer(rt.alloc(), files, request, streams, room);
+    let (answered, files) = answer(call.rt.alloc(), files, request, streams, 0);
     match answered {
-        Answer::Took(finished) => end(rt, finished),
-        Answer::Left(left) => {
-            let about = name_about(&names, left.why);
-            leave(rt, files.pipe, words, left, place, about)
+        Answered::Took(finished) => end(call.rt, finished),
+        Answered::Left(left) => call.leave(
+            files.pipe,
+            Cause {
+                why: left.why,
+                name: names.about(left.why),
+            },
+        ),
+    }
+}
+
+// Answers a call with a stream, which the bedtools of this path gets if it takes it.
+fn answer_stream(
+    call: &Call<'_>,
+    pipe: File,
+    request: Request,
+    streams: Streams,
+    path: &str,
+) -> u8 {
+    let Some(room) = room(call.rt) else {
+        return call.leave(pipe, cause_of(Why::Room));
+    };
+    let Ok(names) = InputNames::of(call.rt, &request.plan) else {
+        return call.leave(pipe, cause_of(Why::NoMemory));
+    };
+    let word = stream_word(call.words, &request.plan, streams.second);
+    let files = DropInFiles {
+        system: SystemFiles { rt: call.rt },
+        pipe,
+        command: request.plan.command.name(),
+    };
+    let (answered, files) = answer(call.rt.alloc(), files, request, streams, room);
+    match answered {
+        Answered::Took(finished) => end(call.rt, finished),
+        Answered::Left(left) => {
+            let cause = Cause {
+                why: left.why,
+                name: names.about(left.why),
+            };
+            match left.stream {
+                Some(stream) => call.leave_stream(files.pipe, cause, Heir { path, word }, stream),
+                None => call.leave(files.pipe, cause),
+            }
         }
     }
 }
 
+// The names of a plan's inputs, kept beside it.
 #[derive(Drop)]
 struct InputNames {
     genome: String,
@@ -122,44 +204,35 @@ struct InputNames {
     second: String,
 }
 
-fn names_of(rt: &HostRuntime, plan: &Plan) -> io::Result<InputNames> {
-    Ok(InputNames {
-        genome: name_of(rt, &plan.genome)?,
-        first: String::from_str(rt.alloc(), plan.first.as_str())?,
-        second: name_of(rt, &plan.second)?,
-    })
+impl InputNames {
+    fn of(rt: &HostRuntime, plan: &Plan) -> io::Result<InputNames> {
+        Ok(InputNames {
+            genome: copy_of(rt, &plan.genome)?,
+            first: String::from_str(rt.alloc(), plan.first.as_str())?,
+            second: copy_of(rt, &plan.second)?,
+        })
+    }
+
+    // The name of the input that is the cause, or no text.
+    fn about(&self, why: Why) -> &str {
+        match why.input() {
+            Some(Input::Genome) => self.genome.as_str(),
+            Some(Input::First) => self.first.as_str(),
+            Some(Input::Second) => self.second.as_str(),
+            None => "",
+        }
+    }
 }
 
-fn name_of(rt: &HostRuntime, name: &Option<String>) -> io::Result<String> {
+fn copy_of(rt: &HostRuntime, name: &Option<String>) -> io::Result<String> {
     match name {
         Some(name) => Ok(String::from_str(rt.alloc(), name.as_str())?),
         None => Ok(String::new(rt.alloc())),
     }
 }
 
-fn name_about(names: &InputNames, why: Why) -> &str {
-    match why.input() {
-        Some(Input::Genome) => names.genome.as_str(),
-        Some(Input::First) => names.first.as_str(),
-        Some(Input::Second) => names.second.as_str(),
-        None => "",
-    }
-}
-
-fn request_of(rt: &HostRuntime, words: &[String]) -> Result<Request, Why> {
-    let request = Request::of(rt.alloc(), words)?;
-    if !is_for_any_version(words) {
-        if let Ok(Some(path)) = find_original(rt) {
-            if !original::is_known_version(rt, path.as_str()) {
-                return Err(Why::Version);
-            }
-        }
-    }
-    Ok(request)
-}
-
-// The word that the stream replaces, 0 for standard input.
-fn stream_place(words: &[String], plan: &Plan, is_second: bool) -> usize {
+// The word of the call that the stream replaces, 0 if it is standard input by its name.
+fn stream_word(words: &[String], plan: &Plan, is_second: bool) -> usize {
     let (name, input) = match &plan.second {
         Some(second) if is_second => (second.as_str(), Input::Second),
         _ => (plan.first.as_str(), Input::First),
@@ -170,74 +243,15 @@ fn stream_place(words: &[String], plan: &Plan, is_second: bool) -> usize {
     value_place(words, option_of(plan.command, input)).unwrap_or(0)
 }
 
+// How a call that was run ends. If its output has no reader any more, the script ends as bedtools does then.
 fn end(rt: &HostRuntime, finished: Finished<FrontInput<Opened>, Output>) -> u8 {
-    let failed = match &finished.left {
+    let has_failed = match &finished.left {
         Some(left) => left.output.failed(),
         None => false,
     };
-    if failed && writes_to_pipe(rt) {
+    if has_failed && writes_to_pipe(rt) {
         return GONE;
     }
     finished.message.print(rt);
     finished.message.status
-}
-
-fn leave(
-    rt: &HostRuntime,
-    pipe: File,
-    words: &[String],
-    left: Left<Opened>,
-    place: usize,
-    about: &str,
-) -> u8 {
-    let mut pipe = pipe;
-    let Left { why, stream } = left;
-    let original = match find_original(rt) {
-        Ok(Some(path)) if matches!(why.taker(), Taker::Original) => path,
-        _ => return said(say(rt, &mut pipe, &Line::Shell)),
-    };
-    tell_left(rt, original.as_str(), words, why, about);
-    match stream {
-        None => said(say(rt, &mut pipe, &Line::Original(original.as_str()))),
-        Some(stream) => {
-            if say(rt, &mut pipe, &Line::Stream(place, original.as_str())).is_err() {
-                return 1;
-            }
-            hand_on(pipe, stream)
-        }
-    }
-}
-
-fn said(written: io::Result<()>) -> u8 {
-    match written {
-        Ok(()) => 0,
-        Err(_) => 1,
-    }
-}
-
-fn hand_on(pipe: File, stream: ReadStream<Opened>) -> u8 {
-    let ReadStream { mut source, kept } = stream;
-    let mut taker = Out::new(ToWrite::new(pipe));
-    match pour(kept.as_slice(), &mut source, &mut taker) {
-        Ok(()) | Err(Unpoured::Taker) => 0,
-        Err(Unpoured::Stream) => 1,
-    }
-}
-
-fn tell_left(rt: &HostRuntime, original: &str, words: &[String], why: Why, about: &str) {
-    let command = match words.first() {
-        Some(word) => word.as_str(),
-        None => "it",
-    };
-    let text = why.text();
-    let told = match (about, why.line()) {
-        ("", _) => format!(in rt.alloc(); "{original} takes {command}: {text}"),
-        (name, None) => format!(in rt.alloc(); "{original} takes {command}: {name}: {text}"),
-        (name, Some(line)) => format!(in rt.alloc();
-            "{original} takes {command}: {name}:{line}: {text}"
-        ),
-    };
-    if let Ok(told) = told {
-        tell(rt, told.as_str());
-    }
 }

@@ -5,10 +5,10 @@ ghost use Rattle.std.specs.Prelude.{⊤};
 use crate::answering::Streams;
 use crate::line::Line;
 use crate::naming::is_stream_name;
-use crate::original;
+use crate::original::Original;
+use crate::system_programs::SystemPrograms;
 use bt_files::{Files, Opened, Output, SystemFiles, Unopened};
 use bt_tool::Plan;
-use std::alloc::AllocError;
 use std::fs::{File, OpenOptions};
 use std::io::Write;
 use std::os::unix::fs::FileTypeExt;
@@ -73,14 +73,20 @@ pub fn writes_to_pipe(rt: &HostRuntime) -> bool {
     }
 }
 
-/// The bedtools on PATH that takes what isn't run here.
-pub fn find_original(rt: &HostRuntime) -> Result<Option<String>, AllocError> {
+/// The bedtools on PATH that takes what isn't run here. One whose path has a line feed can't be named in a line.
+pub fn find_original(rt: &HostRuntime) -> Original {
     let Ok(path) = env::var(rt, "PATH") else {
-        return Ok(None);
+        return Original::Missing;
     };
-    match env::var(rt, "DUNEKETTLE_TRIED") {
-        Ok(tried) => original::find(rt, path.as_str(), tried.as_str()),
-        Err(_) => original::find(rt, path.as_str(), ""),
+    let programs = SystemPrograms { rt };
+    let found = match env::var(rt, "DUNEKETTLE_TRIED") {
+        Ok(tried) => Original::find(rt.alloc(), &programs, path.as_str(), tried.as_str()),
+        Err(_) => Original::find(rt.alloc(), &programs, path.as_str(), ""),
+    };
+    match found {
+        Ok(Original::Named(path)) if path.as_bytes().contains(&b'\n') => Original::Unclear,
+        Ok(found) => found,
+        Err(_) => Original::Unclear,
     }
 }
 
@@ -122,7 +128,7 @@ fn open_told(rt: &HostRuntime, name: &str) -> io::Result<File> {
 pub struct DropInFiles<'r> {
     pub system: SystemFiles<'r>,
     pub pipe: File,
-    pub command: String,
+    pub command: &'static str,
 }
 
 impl Files for DropInFiles<'_> {
@@ -136,14 +142,18 @@ impl Files for DropInFiles<'_> {
 
     ghost refuses = { λ before name after. ⊤ };
 
+    // Before a stream is opened the line begins: from then on the shell doesn't take the call any more.
     fn open(&mut self, name: &str) -> Result<Opened, Unopened> {
+        if is_stream(self.system.rt, name) {
+            let _ = say(self.system.rt, &mut self.pipe, &Line::Begins);
+        }
         self.system.open(name)
     }
 
     fn standard_output(&mut self) -> Output {
         let rt = self.system.rt;
         let _ = say(rt, &mut self.pipe, &Line::Dunekettle);
-        let name = self.command.as_str();
+        let name = self.command;
         if let Ok(text) = format!(in rt.alloc();
             "Dunekettle takes {name}: its words and its files are as it takes them"
         ) {

@@ -27,6 +27,10 @@ pub enum Why {
     Genome(Fault),
     /// The genome file has a comment with a tab, which is a chromosome of bedtools.
     TabInComment,
+    /// The genome file has a NUL, at which bedtools cuts a name.
+    NulInGenome,
+    /// The genome file has a line that bedtools may cut.
+    LongInGenome,
     /// The verdict on the inputs.
     Verdict(Reason),
     /// It converts alignments.
@@ -59,9 +63,12 @@ pub enum Taker {
 }
 
 impl Why {
-    /// Who takes the call.
-    pub fn taker(self) -> Taker {
+    /// Who takes the call, which may be one of `genomecov`: the shell has other orders for that.
+    pub fn taker(self, is_coverage: bool) -> Taker {
         match self {
+            Why::Verdict(Reason::NotByGenome) if is_coverage => Taker::Shell,
+            Why::Verdict(Reason::EmptyNotLast) => Taker::Shell,
+            Why::Words(WordReason::ZerosOfStrand) => Taker::Shell,
             Why::Alignments
             | Why::CoverageForm
             | Why::Limit
@@ -79,19 +86,11 @@ impl Why {
     pub fn input(self) -> Option<Input> {
         match self {
             Why::Unopened(input) | Why::Text(input, _) | Why::Zipped(input) => Some(input),
-            Why::Genome(_) | Why::TabInComment | Why::GenomeStream => Some(Input::Genome),
-            _ => None,
-        }
-    }
-
-    /// The line of that input, if it is about one.
-    pub fn line(self) -> Option<u64> {
-        match self {
-            Why::Text(_, Trouble::Odd(odd)) => Some(odd.line),
-            Why::Text(_, Trouble::ComesBack { line }) => Some(line),
-            Why::Text(_, Trouble::Refused(fault)) | Why::Genome(fault) => {
-                fault.place.map(|place| place.line)
-            }
+            Why::Genome(_)
+            | Why::TabInComment
+            | Why::NulInGenome
+            | Why::LongInGenome
+            | Why::GenomeStream => Some(Input::Genome),
             _ => None,
         }
     }
@@ -109,6 +108,8 @@ impl Why {
             Why::Text(_, trouble) => trouble_text(trouble),
             Why::Genome(fault) => kind_text(fault.kind),
             Why::TabInComment => "a comment has a tab",
+            Why::NulInGenome => "a line has a NUL",
+            Why::LongInGenome => "a line is too long for bedtools",
             Why::Verdict(reason) => verdict_text(reason),
             Why::Alignments => "it converts alignments",
             Why::CoverageForm => "it is a form of genomecov that awk makes",
@@ -161,12 +162,7 @@ fn oddity_text(oddity: Oddity) -> &'static str {
 }
 
 fn kind_text(kind: Kind) -> &'static str {
-    match kind {
-        Kind::ReadFailed => "it can't be read to its end, or it is a stream that is too long",
-        Kind::NoMemory => "there is no memory",
-        Kind::OutOfOrder => "a record is out of order",
-        _ => "Dunekettle refuses a line",
-    }
+    str::from_utf8(kind.text()).unwrap_or("a line is refused")
 }
 
 fn verdict_text(reason: Reason) -> &'static str {

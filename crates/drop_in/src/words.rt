@@ -1,5 +1,9 @@
 //! What the words of a call say, whatever is in its files.
 
+ghost use Rattle.std.specs.Prelude.{◌≡◌, IfErr, IfOk};
+ghost use Rattle.bt_tool.specs.calls.Plan.{words_seen};
+ghost use Rattle.drop_in.specs.calls.Words.{AsksFor, IsWhyOfWords, command_why, names_command, option_of};
+
 use crate::why::Why;
 use bt_front::{Asked, lists_hits};
 use bt_lines::Input;
@@ -10,12 +14,22 @@ use std::alloc::Global;
 #[derive(Drop)]
 pub struct Request {
     pub plan: Plan,
-    pub asked: Asked,
+    /// Whether they have `-sorted`.
+    pub is_sorted: bool,
 }
 
 impl Request {
+    ghost use Rattle.std.specs.Prelude.{◌≡◌, ◌&&◌, IfErr, IfOk, not};
+    ghost use Rattle.bt_front.specs.model.Verdict.{lists_hits};
+    ghost use Rattle.bt_tool.specs.calls.Plan.{words_seen};
+    ghost use Rattle.drop_in.specs.calls.Call.{asked_by};
+    ghost use Rattle.drop_in.specs.calls.Words.{AsksFor, IsWhyOfWords};
+
     /// What these words ask for, or why the call isn't run here.
-    pub fn of(alloc: Global, words: &[String]) -> Result<Request, Why> {
+    pub fn of(alloc: Global, words: &[String]) -> Result<Request, Why>
+        ensures asks { IfOk result (AsksFor (words_seen words.now)) }
+        ensures why { IfErr result (IsWhyOfWords (words_seen words.now)) }
+    {
         if is_command(words, "bamtobed") {
             return Err(Why::Alignments);
         }
@@ -31,19 +45,36 @@ impl Request {
             return Err(why);
         }
         match Asked::of(words, &plan) {
-            Ok(asked) => Ok(Request { plan, asked }),
+            Ok(asked) => Ok(Request {
+                plan,
+                is_sorted: asked.is_sorted,
+            }),
             Err(reason) => Err(Why::Words(reason)),
         }
     }
 
+    /// What decides who takes the call, beside its texts.
+    pub fn asked(&self) -> Asked
+        ensures { result ≡ asked_by self.now }
+    {
+        Asked {
+            command: self.plan.command,
+            is_sorted: self.is_sorted,
+        }
+    }
+
     /// Whether the hits of a record have to be put in order.
-    pub fn orders_hits(&self) -> bool {
-        lists_hits(self.asked.command) && !self.asked.is_sorted
+    pub fn orders_hits(&self) -> bool
+        ensures { result ≡ lists_hits self.now.plan.command && not self.now.is_sorted }
+    {
+        lists_hits(self.plan.command) && !self.is_sorted
     }
 }
 
 // Whether the first word is this command.
-fn is_command(words: &[String], name: &str) -> bool {
+fn is_command(words: &[String], name: &str) -> bool
+    ensures { result ≡ names_command (words_seen words.now) name.now }
+{
     match words.first() {
         Some(word) => word.as_str() == name,
         None => false,
@@ -51,7 +82,9 @@ fn is_command(words: &[String], name: &str) -> bool {
 }
 
 // Why a command isn't run here.
-fn command_why(command: Command) -> Option<Why> {
+fn command_why(command: Command) -> Option<Why>
+    ensures { result ≡ command_why command }
+{
     match command {
         Command::Intersect { held: Some(_), .. } | Command::Subtract { held: Some(_), .. } => {
             Some(Why::Limit)
@@ -63,7 +96,9 @@ fn command_why(command: Command) -> Option<Why> {
 }
 
 /// The option that names an input of a command.
-pub fn option_of(command: Command, input: Input) -> &'static str {
+pub fn option_of(command: Command, input: Input) -> &'static str
+    ensures { result.now ≡ option_of command input }
+{
     match (input, command) {
         (Input::Genome, _) => "-g",
         (Input::Second, _) => "-b",
