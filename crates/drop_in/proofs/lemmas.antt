@@ -4,3 +4,4 @@ pub mod KeptLemmas
 pub mod MarkLemmas
 pub mod OriginalLemmas
 pub mod TakenLemmas
+pub mod WordsLemmas

@@ -1,75 +1,113 @@
-//! The bedtools behind this one on PATH.
+//! The bedtools behind ours on PATH, to which goes what isn't run here.
 
-use memchr::memmem;
-use std::alloc::AllocError;
-use std::fs;
-use std::fs::File;
-use std::io::Read;
-use std::os::unix::fs::MetadataExt;
+ghost use Rattle.std.specs.Prelude.{◌≡◌, IfOk, Ok, false, string_bytes, true};
+ghost use Rattle.drop_in.specs.calls.Original.{IsBehind, IsForeign, name_in, names_on, is_tried};
+ghost use Rattle.drop_in.specs.inside.Judged.{IsJudged, IsOurs};
 
-// Whatever has these words isn't the original.
-const OURS: &[u8] = b"no such sequence from here on";
+use crate::marks::{Mark, Search};
+use crate::programs::{Programs, Standing};
+use bt_files::Unopened;
+use std::alloc::{AllocError, Global};
 
-/// The first bedtools on PATH that isn't ours and that no call before this one was given to.
-pub fn find(rt: &HostRuntime, path: &str, tried: &str) -> Result<Option<String>, AllocError> {
-    for folder in path.split(':') {
-        let folder = if folder.is_empty() { "." } else { folder };
-        let mut name = String::from_str(rt.alloc(), folder)?;
-        name.push_str("/bedtools")?;
-        if is_program(rt, name.as_str())
-            && !has_word(tried, name.as_str())
-            && !is_ours(rt, name.as_str())
-        {
-            return Ok(Some(name));
-        }
-    }
-    Ok(None)
+/// What is behind ours on PATH.
+#[derive(Debug, Drop)]
+pub enum Original {
+    /// The file of this name.
+    Named(String),
+    /// Nothing.
+    Missing,
+    /// A file of which it isn't known whether it may be run, before any other.
+    Unclear,
 }
 
-fn has_word(tried: &str, name: &str) -> bool {
-    for word in tried.split(':') {
-        if word == name {
+impl Original {
+    /// What is behind ours in the folders of a PATH, for a call that was given to these files before: both have colons
+    /// between their parts. A file that can't be read isn't taken for ours.
+    pub fn find<P: Programs>(
+        alloc: Global,
+        programs: &P,
+        path: &str,
+        tried: &str,
+    ) -> Result<Original, AllocError>
+        ensures { IfOk result (λ found. IsBehind P.Programs P.Program.Source programs.now tried.now
+            (names_on path.now) found) }
+    {
+        for folder in path.split(':') {
+            let name = name_in(alloc, folder)?;
+            match judge(programs, tried, name.as_str())? {
+                Judged::Original => return Ok(Original::Named(name)),
+                Judged::Unclear => return Ok(Original::Unclear),
+                Judged::Passed => {}
+            }
+        }
+        Ok(Original::Missing)
+    }
+}
+
+// What a file is.
+#[derive(Clone, Copy, Debug, PartialEq, Eq)]
+enum Judged {
+    // The original, if no file comes before it.
+    Original,
+    // Not the original.
+    Passed,
+    // A file of which it isn't known whether it may be run.
+    Unclear,
+}
+
+// What the file of this name is.
+fn judge<P: Programs>(programs: &P, tried: &str, name: &str) -> Result<Judged, AllocError>
+    ensures { IfOk result (IsJudged P.Programs P.Program.Source programs.now tried.now name.now) }
+{
+    if is_tried(tried, name) {
+        return Ok(Judged::Passed);
+    }
+    match programs.standing(name) {
+        Standing::Other => Ok(Judged::Passed),
+        Standing::Unclear => Ok(Judged::Unclear),
+        Standing::Program => {
+            if is_foreign(programs, name)? {
+                Ok(Judged::Original)
+            } else {
+                Ok(Judged::Passed)
+            }
+        }
+    }
+}
+
+// Whether a program isn't ours.
+fn is_foreign<P: Programs>(programs: &P, name: &str) -> Result<bool, AllocError>
+    ensures foreign { result ≡ Ok true → IsForeign P.Programs P.Program.Source programs.now name.now }
+    ensures ours { result ≡ Ok false → IsOurs P.Programs P.Program.Source programs.now name.now }
+{
+    match programs.open(name) {
+        Ok(program) => {
+            let mut program = program;
+            Ok(matches!(Mark::Ours.search(&mut program), Search::Absent))
+        }
+        Err(Unopened::Refused) => Ok(true),
+        Err(Unopened::NoMemory) => Err(AllocError),
+    }
+}
+
+// The file in a folder of PATH.
+fn name_in(alloc: Global, folder: &str) -> Result<String, AllocError>
+    ensures { IfOk result (λ name. string_bytes name ≡ name_in folder.now) }
+{
+    let folder = if folder.is_empty() { "." } else { folder };
+    let mut name = String::from_str(alloc, folder)?;
+    name.push_str("/bedtools")?;
+    Ok(name)
+}
+
+// Whether a file is among those tried.
+fn is_tried(tried: &str, name: &str) -> bool
+    ensures { result ≡ is_tried tried.now name.now }
+{
+    for one in tried.split(':') {
+        if one == name {
             return true;
         }
-    }
-    false
-}
-
-fn is_program(rt: &HostRuntime, name: &str) -> bool {
-    match fs::metadata(rt, name) {
-        Ok(found) => found.is_file() && found.mode() & 0o111 != 0,
-        Err(_) => false,
-    }
-}
-
-fn is_ours(rt: &HostRuntime, name: &str) -> bool {
-    contains(rt, name, OURS)
-}
-
-/// Whether this bedtools is of a version that all was compared with, by the words in it: it isn't run.
-pub fn is_known_version(rt: &HostRuntime, name: &str) -> bool {
-    contains(rt, name, b"v2.30.0") || contains(rt, name, b"v2.31.")
-}
-
-// Whether a file of at most 64 MiB has these bytes. One that can't be read has not.
-fn contains(rt: &HostRuntime, name: &str, words: &[u8]) -> bool {
-    let Ok(mut file) = File::open(rt, name) else {
-        return false;
-    };
-    let mut block = [0u8; 65536];
-    let mut kept = 0;
-    for _ in 0..1024 {
-        let count = match file.read(&mut block[kept..]) {
-            Ok(0) | Err(_) => return false,
-            Ok(count) => count,
-        };
-        let end = kept + count;
-        if memmem::find(&block[..end], words).is_some() {
-            return true;
-        }
-        // What the words may begin in.
-        kept = end.min(words.len() - 1);
-        block.copy_within(end - kept..end, 0);
     }
     false
 }
