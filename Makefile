@@ -1,6 +1,7 @@
 # SPDX-License-Identifier: MIT
 # make builds bin/bedtools, make example runs it, make test is the gate, make mutants tries further wrong bodies, and
 # make definitions wrong definitions.
+# make generated writes what is made of other files.
 # make check-docs checks the docs, make check-program the program at its edges, make check-speed its instructions,
 # make check-differences compares it with bedtools 2.30.0, make check-front runs pipelines through its front, make check-shards
 # runs it in shards. make install PREFIX=.. NAME=.. copies the program, its front, their docs, manual pages and completions,
@@ -37,7 +38,7 @@ DOCS := README.md CHANGELOG.md LICENSE $(wildcard docs/*.md docs/*.svg) bench/RE
 	tests/differences/differences.tsv CITATION.cff SECURITY.md packaging/copyright packaging/sbom.spdx.json
 
 .PHONY: all built example test mutants definitions check-docs check-program check-speed check-differences check-front check-shards \
-	check-packages pictures completions install uninstall dist deb clean
+	check-packages generated completions pictures install uninstall dist deb clean
 
 all: $(PROGRAM)
 
@@ -111,8 +112,8 @@ check-program: $(PROGRAM)
 check-speed: $(PROGRAM)
 	bench/compare.py --check
 
-# The rows of differences.tsv and of options.tsv in tests/differences, and the scripts of recipes/, tried with the program and
-# with the bedtools 2.30.0 on PATH.
+# The rows of tests/differences/differences.tsv, the options of tools/options.tsv, and the scripts of recipes/, tried with the
+# program and with the bedtools 2.30.0 on PATH.
 check-differences: $(PROGRAM)
 	$(UNITTEST) -s tests/differences
 	$(UNITTEST) -s tests/recipes -p test_recipes.py
@@ -137,12 +138,21 @@ check-shards: $(PROGRAM)
 check-packages: $(PROGRAM)
 	tests/packages/check.sh
 
-pictures:
-	tools/pictures.py
-
-completions:
+# Help, completions, manual pages, and the parts of pages and scripts between marks. COMMANDS.md comes before the manual pages,
+# which are made of it.
+generated: pictures
+	tools/options.py
 	tools/completions.py
 	tools/manuals.py
+	tools/migrating.py
+	tools/recipe_table.py
+	tools/model.py
+	tools/verdict.py
+
+completions: generated
+
+pictures:
+	tools/pictures.py
 
 # Whether make was called with -s.
 is_silent = $(findstring s,$(filter-out -%,$(firstword $(MAKEFLAGS))))

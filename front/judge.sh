@@ -9,12 +9,14 @@
 
 # Larger than any end
 dk_far=999999999999
-# A byte order mark, the first bytes of gzip, and CR
-dk_mark=$(printf '\357\273\277 \037\213 \r')
+# A byte order mark, the byte by which bedtools knows gzip, and CR
+dk_mark=$(printf '\357\273\277 \037 \r')
 dk_zipped=${dk_mark#* } dk_cr=${dk_mark##* }
 dk_mark=${dk_mark%% *} dk_zipped=${dk_zipped% *}
 dk_kilobyte=xxxx
 for dk_round in 1 2 3 4; do dk_kilobyte=$dk_kilobyte$dk_kilobyte$dk_kilobyte$dk_kilobyte; done
+# bedtools cuts a line as it writes it, when a start may have eight digits more.
+dk_kilobyte=${dk_kilobyte#????????}
 
 # look_at_features FILE..: sets `dk_why` for merge, complement, intersect and subtract, and `dk_hits` to `several` if
 # hits have to be put in order
@@ -98,7 +100,7 @@ look_at_lines() {
     LC_ALL=C grep -qaE "^.?\$|$dk_cr$dk_cr|^##fileformat=VCF" < "$1" &
     await $!
     [ $? = 1 ] || { dk_why="$1 has a blank line, CR CR, or a header line of VCF"; return; }
-    has_short_lines "$1" || dk_why="$1 has a line of over 1,023 bytes"
+    has_short_lines "$1" || dk_why="$1 has a line of over 1,015 bytes"
 }
 
 # has_short_lines FILE: whether no line has a kilobyte, with x for each byte. One that comes last says that all came.
@@ -108,9 +110,11 @@ has_short_lines() {
     await $! && IFS= read -r dk_line < "$dk_spare" && [ "$dk_line" = 1 ]
 }
 
-# look_at_genome FILE: a comment with a tab is a chromosome of bedtools
+# look_at_genome FILE: a comment with a tab is a chromosome of bedtools, which cuts names at a NUL, and long ones
 look_at_genome() {
-    LC_ALL=C awk '/^#.*\t/ { exit 1 }' < "$1" > /dev/null 2>&1 || dk_why="$1 has a comment with a tab"
+    LC_ALL=C awk -F '\t' '/^#.*\t/ || length($1) > 900 { exit 1 }' < "$1" > /dev/null 2>&1 ||
+        dk_why="$1 has a comment with a tab, or a name of over 900 bytes"
+    [ "$(LC_ALL=C tr -dc '\000' < "$1" | wc -c)" -eq 0 ] || dk_why="$1 has a NUL"
 }
 
 # look_closer FILE [GENOME]: sets `dk_why` if bedtools writes something else for what this file has, silently

@@ -4,17 +4,23 @@
 # has_word OPTION: whether it stands in the command line
 has_word() { case $dk_words in *" $1 "*) ;; *) return 1 ;; esac; }
 
-# takes_value OPTION
+# takes_value OPTION: whether it has a value in this command
 takes_value() {
-    case $1 in
-    -i | -a | -b | -g | -f | -d | -fi | -bed | -fo | -held | -S | -strand | -mc) ;;
-    -ibam | -max | -scale) [ "$dk_command" = genomecov ] ;;
+    case $dk_command$1 in
+    # tools/options.py writes these lines
+    merge-i | merge-g | merge-d | merge-S | merge-c | merge-o | merge-delim | merge-prec | merge-iobuf) ;;
+    complement-i | complement-g) ;;
+    intersect-a | intersect-b | intersect-g | intersect-f | intersect-held | intersect-abam | intersect-names) ;;
+    intersect-F | intersect-iobuf) ;;
+    subtract-a | subtract-b | subtract-g | subtract-f | subtract-held | subtract-F | subtract-iobuf) ;;
+    genomecov-i | genomecov-g | genomecov-strand | genomecov-ibam | genomecov-max | genomecov-scale) ;;
+    genomecov-trackopts | genomecov-fs) ;;
+    bamtobed-i | bamtobed-tag | bamtobed-color) ;;
+    maskfasta-fi | maskfasta-bed | maskfasta-fo | maskfasta-mc) ;;
+    # they end here
     *) return 1 ;;
     esac
 }
-
-# is_option_with_value OPTION: the same of this command: -d of genomecov has none
-is_option_with_value() { [ "$dk_command$1" != genomecov-d ] && takes_value "$1"; }
 
 # read_options WORD..: sets a variable for each value, and `dk_words`, in which each option stands
 read_options() {
@@ -23,7 +29,7 @@ read_options() {
     while [ $# -gt 0 ]; do
         case $dk_words in *" $1 "*) dk_why="$1 is given twice" ;; esac
         dk_words="$dk_words$1 "
-        if is_option_with_value "$1"; then
+        if takes_value "$1"; then
             if [ -z "${2-}" ]; then dk_why="$1 has no value"; return; fi
             case $1 in
             -i) dk_i=$2 ;; -a) dk_a=$2 ;; -b) dk_b=$2 ;; -g) dk_g=$2 ;; -f) dk_f=$2 ;; -d) dk_d=$2 ;;

@@ -5,3 +5,9 @@
 
 A test that fails leaves its files in bin/failed, and says which line to type there.
 """
+
+import sys
+from pathlib import Path
+
+# Tests read the tables that the tools read, and try the tools by comparing files with what they would write.
+sys.path.append(str(Path(__file__).resolve().parent.parent / "tools"))

@@ -5,7 +5,6 @@ import re
 import shlex
 import shutil
 import subprocess
-import sys
 import tempfile
 import unittest
 from collections import Counter
@@ -16,8 +15,6 @@ TOP = Path(__file__).resolve().parent.parent
 # Another program than the one in bin/ may be tried: PROGRAM=FILE.
 PROGRAM = str(Path(os.environ.get("PROGRAM", TOP / "bin" / "bedtools")).resolve())
 FAILED = TOP / "bin" / "failed"
-# What writes files of the repository, and is tried by comparing them with what would be written.
-sys.path.append(str(TOP / "tools"))
 
 
 def number(name, otherwise):

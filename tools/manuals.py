@@ -1,21 +1,36 @@
 #!/usr/bin/env python3
-"""Writes a manual page of each command: generated/man/dunekettle-COMMAND.1, by its part of COMMANDS.md and options.txt.
+"""Writes a manual page of each command: generated/man/dunekettle-COMMAND.1, by its part of COMMANDS.md and its options.
 
-Text, lists and examples are those of COMMANDS.md, without pictures and tables; the options are those of options.txt. An
+Text, lists and examples are those of COMMANDS.md, without pictures and tables; the options are those of options.py. An
 example that reads a file of an earlier command begins with the lines that make it. The date is that of man/bedtools.1.
 """
 
 import re
 import sys
 
-from completions import COMMANDS, NAME, default_in_words, read_options, sections, synopsis, version
+from completions import NAME, version
 from files import read, write
+from options import COMMANDS, FRONT, call, commands, default_in_words
 
 # Pieces of a paragraph: code, and a link, of which the text is left.
 LINK = re.compile(r"\[([^\]]*)\]\([^)]*\)")
 CODE = re.compile(r"`([^`]*)`")
 # A line of an example that makes a file, or adds to it.
 MAKES = re.compile(r"^    \$ printf .* (>>?) (\S+)$", re.MULTILINE)
+# What begins the table of options.
+TABLE = "<!-- tools/options.py: table of "
+
+
+def section_of(command):
+    """The part of COMMANDS.md on a command."""
+    return read(COMMANDS).split(f"\n## {command.name}\n", 1)[1].split("\n## ", 1)[0]
+
+
+def without_example(command):
+    """The options that no example of COMMANDS.md has."""
+    examples = re.findall(rf"^    [$>] .*\b{command.name}\b(.*)", section_of(command), re.MULTILINE)
+    given = {word for words in examples for word in words.split()}
+    return [option.word for option in command.options if option.word not in given]
 
 
 def escaped(text):
@@ -106,36 +121,31 @@ def statuses(has_limit):
 def option_lines(options):
     """The part on the options."""
     lines = [".Sh OPTIONS", ".Bl -tag -width Ds"]
-    for option, value, default, text in options:
-        lines += [f".It \\fB{escaped(option)}\\fP {value}".rstrip(), f"{text[0].upper()}{text[1:]}."]
-        lines += [default_in_words(default)] if default not in ("off", "on") else []
+    for option in options:
+        text = option.text()
+        lines += [f".It \\fB{escaped(option.word)}\\fP {option.value}".rstrip(), f"{text[0].upper()}{text[1:]}."]
+        lines += [default_in_words(option.default)] if option.default not in ("off", "on") else []
     return [*lines, ".El"]
 
 
-def manual(command, purpose, options, section, date):
+def manual(command, date):
     """The text of a command's page."""
-    made, call = files_before(section), synopsis(command, section)
-    lines = [f".Dd {date}", f".Dt DUNEKETTLE-{command.upper()} 1", ".Os", ".Sh NAME", f".Nm dunekettle-{command}",
-             f".Nd {purpose}", ".Sh SYNOPSIS", escaped(f"dunekettle {call}"), ".Sh DESCRIPTION",
-             *body(section.split("\n| option |")[0], made), *option_lines(options), ".Sh EXAMPLES"]
-    lines += body("\n\n".join(section.split("\n\n")[options_end(section):]), made)
-    lines += [*statuses("-held" in call), *SEE_ALSO, f"This page is that of Dunekettle {version()}.", *PAGES]
+    section = section_of(command)
+    made, before, after = files_before(section), section.split(TABLE)[0], section.split(TABLE)[1].split("\n\n", 1)
+    lines = [f".Dd {date}", f".Dt DUNEKETTLE-{command.name.upper()} 1", ".Os", ".Sh NAME",
+             f".Nm dunekettle-{command.name}", f".Nd {command.does}",
+             ".Sh SYNOPSIS", escaped(" ".join([FRONT, *call(command)])),
+             ".Sh DESCRIPTION", *body(before, made), *option_lines(command.options),
+             ".Sh EXAMPLES", *body("\n".join(after[1:]), made)]
+    has_limit = any(option.word == "-held" for option in command.options)
+    lines += [*statuses(has_limit), *SEE_ALSO, f"This page is that of Dunekettle {version()}.", *PAGES]
     return "".join(f"{line}\n" for line in lines)
-
-
-def options_end(section):
-    """Which block of a section comes after its table of options."""
-    parts = section.split("\n\n")
-    return next(at for at, part in enumerate(parts) if part.startswith("| option |")) + 1
 
 
 def made():
     """Each page and its text."""
-    _, commands = read_options()
-    parts = sections(commands)
     date = re.search(r"^\.Dd (.*)", read("man/bedtools.1"))[1]
-    return {f"generated/man/dunekettle-{command}.1": manual(command, purpose, options, parts[command], date)
-            for command, (purpose, options) in commands.items()}
+    return {f"generated/man/dunekettle-{command.name}.1": manual(command, date) for command in commands().values()}
 
 
 if __name__ == "__main__":

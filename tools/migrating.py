@@ -1,15 +1,15 @@
 #!/usr/bin/env python3
-"""Writes the rows of differences.tsv and options.tsv into MIGRATING.md, by command, and instead.txt, the hints on
-options that aren't taken.
+"""Writes the options of bedtools and the rows of differences.tsv into MIGRATING.md, by command, and instead.txt, the
+hints on options that aren't taken.
 
     tools/migrating.py           writes them
     tools/migrating.py merge     prints all that the tables have of a command, or of `every`
 
 The page has the options, and a table for each kind of difference. Columns are separated by tabs.
 differences.tsv has the command (`every` for all), the difference, what bedtools 2.30.0 and Dunekettle do, the kind, who
-takes such a command line of the drop-in, and what to do. options.tsv has the command, its options, whether Dunekettle
-takes them, and what to write. An option that is taken says `same`, and no other does. Each script that a row names is
-in recipes/.
+takes such a command line of the drop-in, and what to do. The options are those of options.py, with what it says to
+those who come from bedtools: that begins with `same` if Dunekettle takes the option, and else with something else. Each
+script that a row names is in recipes/.
 """
 
 import re
@@ -17,9 +17,10 @@ import sys
 from typing import NamedTuple
 
 from files import TOP, read, rows, write
+from options import commands
 
 PAGE = "docs/MIGRATING.md"
-DIFFERENCES, OPTIONS = "tests/differences/differences.tsv", "tests/differences/options.tsv"
+DIFFERENCES = "tests/differences/differences.tsv"
 SCRIPTS = TOP / "recipes"
 # The hints of `dunekettle` on options that aren't taken.
 INSTEAD = "generated/instead.txt"
@@ -42,8 +43,8 @@ class Difference(NamedTuple):
     advice: str
 
 
-class Option(NamedTuple):
-    """A row of options.tsv: options that are spelled in these ways, or a text if it is the lack of some."""
+class Options(NamedTuple):
+    """Options of a command of which the same is said, or the lack of some."""
 
     command: str
     words: list
@@ -57,17 +58,21 @@ def differences():
 
 
 def options():
-    """The rows of options.tsv."""
-    return [Option(command, words.split() if words.startswith("-") else [words], taken, advice)
-            for command, words, taken, advice in rows(OPTIONS)]
+    """The options of bedtools, those of a command together of which the same is said."""
+    found = {}
+    for command in commands().values():
+        for option in (*command.options, *command.others):
+            same = (command.name, option.word.startswith("-"), option.advice)
+            found.setdefault(same, Options(command.name, [], "yes" if option.does else "no", option.advice))
+            found[same].words.append(option.word)
+    return [row for row in found.values() if row.advice]
 
 
 def options_of(command):
     """The list of a command's options."""
     lines = []
     for name, words, _, advice in options():
-        shown = ", ".join(f"`{word}`" for word in words)
-        shown = shown if words[0].startswith("-") else "none of `-d`, `-dz`, `-bg`, `-bga`"
+        shown = re.sub(r"(?<![\w-])-\w+", r"`\g<0>`", ", ".join(words))
         lines += [f"- {shown}: {advice}\n"] if name == command else []
     return "".join(lines)
 
@@ -98,8 +103,8 @@ def print_all(command):
 
 
 def hint_of(advice):
-    """What a hint says instead of an option: the scripts that replace it, or to leave it out, or nothing; and the options
-    of which the scripts need one."""
+    """What a hint says instead of an option: the scripts that replace it, or to leave it out, or nothing; and the
+    options of which the scripts need one."""
     scripts = [] if advice.startswith("none") else re.findall(r"`([\w-]+\.sh)`", advice)
     needed = re.search(r"(?:for|beside) (.*); else none$", advice)
     words = " ".join(re.findall(r"`(-\w+)`", needed[1])) if needed else ""
@@ -128,7 +133,7 @@ def amiss():
             yield f"differences.tsv: {row.name}: there is no such kind, or no such program"
     for row in options():
         if (row.taken == "yes") != row.advice.startswith("same"):
-            yield f"options.tsv: {row.command} {' '.join(row.words)}: is taken, or it isn't"
+            yield f"options.tsv: {row.command} {', '.join(row.words)}: is taken, or it isn't"
     texts = [row.advice for row in (*differences(), *options())]
     for name in sorted({name for text in texts for name in re.findall(r"`([\w-]+\.sh)`", text)}):
         if not (SCRIPTS / name).exists():

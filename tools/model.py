@@ -1,3 +1,4 @@
+#!/usr/bin/env python3
 """Reads which files and definitions say what a run reports, and writes the list of ARCHITECTURE.md and the numbers of
 PROVED.md."""
 

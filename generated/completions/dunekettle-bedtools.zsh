@@ -23,8 +23,8 @@ merge)
         '-i[the features]:FILE:_files' \
         '-g[the chromosomes in their order]:GENOME:_files' \
         '-d[also joins features that are up to N bases apart]:N: ' \
-        '-S[merges only the features on this strand, by the sixth column]:+ or -:(+ -)' \
-        '-s[merges the features of each strand separately]' ;;
+        '-s[merges the features of each strand separately]' \
+        '-S[merges only the features on this strand, by the sixth column]:+ or -:(+ -)' ;;
 complement)
     _arguments \
         '-i[the features]:FILE:_files' \

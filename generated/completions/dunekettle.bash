@@ -27,8 +27,8 @@ _dunekettle() {
             '-i  (the features)'
             '-g  (the chromosomes in their order)'
             '-d  (also joins features that are up to N bases apart)'
-            '-S  (merges only the features on this strand, by the sixth column)'
             '-s  (merges the features of each strand separately)'
+            '-S  (merges only the features on this strand, by the sixth column)'
         ) ;;
         complement:*) lines=(
             '-i  (the features)'

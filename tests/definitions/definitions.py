@@ -29,7 +29,8 @@ EDITS = HERE / "definitions.edits"
 TABLE = HERE / "definitions.txt"
 # The crates with definitions.
 MODELS = ("bt_lines", "bt_bed", "bt_runs", "bt_sweep", "bt_seq", "bt_tool")
-# The definitions of those crates, of the worked values, and of the scans for stretches and for intervals of equal depth.
+# The definitions of those crates, of the worked values, and of the scans for stretches and for intervals of equal
+# depth.
 SPECS = (*(f"{crate}/specs/model/*.antt" for crate in MODELS), "bt_laws/specs/WholeRuns.antt",
          "bt_laws/specs/Worked.antt", "bt_bed/specs/calls/LevelScan.antt", "bt_bed/specs/calls/Stretches.antt")
 LEMMAS = ("bt_lines/proofs/Std.antt", "bt_bed/proofs/lemmas/LevelScans.antt", "bt_bed/proofs/lemmas/StretchScans.antt")
@@ -153,7 +154,8 @@ def put_scan(path):
     """Has a definition by stretches name the scan for the one list that there is."""
     text = path.read_text()
     text = re.sub(r"^use [^\n]*\{OneSpanList\}\n", "", text, flags=re.M)
-    text = re.sub(r"let one : [^\n]*= one_span_list (\w+|\([^()]*\)) ([\w.]+) in\n    one\.spans", r"stretches_from \1 0 \2", text)
+    text = re.sub(r"let one : [^\n]*= one_span_list (\w+|\([^()]*\)) ([\w.]+) in\n    one\.spans",
+                  r"stretches_from \1 0 \2", text)
     path.write_text(text.replace("proofs.StretchScans.{one_span_list}", "specs.bt_bed.Stretches.{stretches_from}"))
 
 

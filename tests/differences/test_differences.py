@@ -4,8 +4,8 @@ A trial is one command line for each program, in a folder with the files of tria
 standard output and exit status, and for ours standard error too. A row of the file has a trial of its name, and each
 trial has a row, whose kind is that of the answers. The drop-in gets the command line of bedtools, has to give it to the
 program that the row names, and to answer as that one does. What other pages say of bedtools is tried with bedtools
-alone. Each option that bedtools names in the help text of a command has a row in options.tsv, and the program takes it
-if and only if that row says `yes`. Without that bedtools nothing of this is tried, but for the rows.
+alone. Each option that bedtools names in the help text of a command has a row in tools/options.tsv, and the program
+takes it if and only if that row says what it does. Without that bedtools nothing of this is tried, but for the rows.
 """
 
 import base64
@@ -66,7 +66,7 @@ def fill(folder):
     even = "".join(f"c\t{n}0\t{n}5\n".replace("\t", "\t0", 2) for n in range(1001, 9001))
     Path(folder, "even.bed").write_text(even, encoding="utf-8")
     Path(folder, "f.bed.gz").write_bytes(gzip.compress(FILES["f.bed"].encode()))
-    Path(folder, "magic.bed").write_bytes(b"\x1f\x8b\t2\t6\n")
+    Path(folder, "magic.bed").write_bytes(b"\x1fx\t2\t6\n")
     Path(folder, "at_zero.bam").write_bytes(base64.b64decode(AT_ZERO))
     Path(folder, "many.bed").write_text("chr1\t2\t6\n" * 100_000, encoding="utf-8")
     Path(folder, "pile.bed").write_text("chr1\t2\t6\n" * 1_000_010, encoding="utf-8")

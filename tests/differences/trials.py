@@ -142,7 +142,7 @@ TRIALS = [
           ours("intersect -u -a two_cr.bed -b f.bed | wc -c", "12\n")),
     Trial("NUL in a line", theirs("intersect -u -a nul.bed -b f.bed", "chr1\t2\t6\ta\n"),
           ours("intersect -u -a nul.bed -b f.bed", "chr1\t2\t6\ta\0b\n")),
-    Trial("name that begins with the bytes 1f 8b, as a gzip file does", theirs("merge -i magic.bed"),
+    Trial("name that begins with the byte 1f, as a gzip file does", theirs("merge -i magic.bed"),
           ours("merge -i magic.bed | wc -c", "7\n")),
     Trial("name `chrom` and CR", theirs("merge -i chrom_cr.bed | wc -c", "0\n"),
           ours("merge -i chrom_cr.bed | wc -c", "11\n")),

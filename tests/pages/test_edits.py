@@ -1,8 +1,8 @@
 """The refused edits of must-fail/ and mutants/ fit the code.
 
 An edit has lines 'file: NAME', and after each of them pairs of lines 'old: TEXT' and 'new: TEXT'. The file exists in
-the edit's crate, each old TEXT occurs exactly once in what the edit's earlier pairs made of it, the new TEXT is another,
-and no two edits of a crate make the same change.
+the edit's crate, each old TEXT occurs exactly once in what the edit's earlier pairs made of it, the new TEXT is
+another, and no two edits of a crate make the same change.
 """
 
 from typing import NamedTuple

@@ -9,11 +9,15 @@ import completions
 import manuals
 import migrating
 import model
+import options
 import pictures
 import recipe_table
+import verdict
 from files import TOP, read
 
-TOOLS = (completions, manuals, migrating, model, pictures, recipe_table)
+TOOLS = (completions, manuals, migrating, model, options, pictures, recipe_table, verdict)
+# Where the kit is named.
+NAMING_KIT = ("README.md", "Makefile", "docs/PROVED.md", "packaging/copyright", "packaging/sbom.spdx.json")
 
 
 class Made(NamedTuple):
@@ -43,9 +47,9 @@ class Tables(Counted):
         self.assertEqual(list(migrating.amiss()), [])
 
     def test_each_option_has_an_example(self):
-        _, commands = completions.read_options()
-        self.assertEqual(list(completions.without_example(commands)), [])
+        lost = {command.name: manuals.without_example(command) for command in options.commands().values()}
+        self.assertEqual(lost, dict.fromkeys(lost, []))
 
-    def test_kit_is_the_one_of_the_front_page(self):
-        kit, _ = completions.read_options()
-        self.assertEqual(set(re.findall(r"rattle-kit-\w+", read("README.md"))) - {kit}, set())
+    def test_kit_is_the_same_everywhere(self):
+        named = {name: set(re.findall(r"rattle-kit-\w+", read(name))) for name in NAMING_KIT}
+        self.assertEqual(named, dict.fromkeys(NAMING_KIT, {completions.kit()}))

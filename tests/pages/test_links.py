@@ -73,7 +73,8 @@ SAME = {
         "CHANGELOG.md": r"on 30,000 bases took (\S+ s), and take (\S+ s)",
         "bench/HISTORY.md": r"on 30,000 bases\* (\S+ s) to (\S+ s)"},
     "how many scripts are slower than bedtools": {
-        "README.md": r"(\d+) of (\d+) are slower than bedtools", "docs/RECIPES.md": r"(\d+) of (\d+) scripts are slower"},
+        "README.md": r"(\d+) of (\d+) are slower than bedtools",
+        "docs/RECIPES.md": r"(\d+) of (\d+) scripts are slower"},
     "how many bytes wait to be written": {
         "docs/COMMANDS.md": r"Ready lines are written ([\d,]+) bytes",
         "docs/PROVED.md": r"At most ([\d,]+) bytes of settled",
@@ -256,8 +257,8 @@ def imports_of(file):
 
 
 def unnamed():
-    """The definitions of the model that neither the report nor a contract of bt_front names, directly or through others.
-    A variable counts as the definition of its name, and an operator as a name that nothing has."""
+    """The definitions of the model that neither the report nor a contract of bt_front names, directly or through
+    others. A variable counts as the definition of its name, and an operator as a name that nothing has."""
     words = {file: words_of(file) for file in sorted(model())}
     places = {file: {**{name: (file, name) for name in words[file]}, **imports_of(file)} for file in words}
     found, open_ones = set(), [(REPORT, "report"), *said_by_front()]

@@ -7,6 +7,8 @@ import re
 from dataclasses import dataclass
 from fractions import Fraction
 
+from options import FILES, STRAND, commands
+
 LARGEST = 999_999_999_999
 
 
@@ -380,24 +382,13 @@ def answer_of(command, files, options):
     return output, True, first[1]
 
 
-FILE, NUMBER, STRAND, FRACTION, CHARACTER = r".+", r"[0-9]+", r"[+-]", r"[0-9]+|[0-9]*\.[0-9]{1,9}|[0-9]+\.", r"[!-~]"
-# The options of each command: the form of the value, or None where none follows.
-OF_TWO = {"-a": FILE, "-b": FILE, "-g": FILE, "-f": FRACTION, "-s": None, "-held": NUMBER}
-OPTIONS = {
-    "merge": {"-i": FILE, "-g": FILE, "-d": NUMBER, "-s": None, "-S": STRAND},
-    "complement": {"-i": FILE, "-g": FILE, "-L": None},
-    "intersect": {**OF_TWO, "-wa": None, "-wb": None, "-wo": None, "-u": None, "-v": None, "-c": None, "-r": None,
-                  "-sorted": None},
-    "subtract": {**OF_TWO, "-A": None},
-    "genomecov": {"-i": FILE, "-g": FILE, "-bg": None, "-bga": None, "-strand": STRAND},
-    "bamtobed": {"-i": FILE, "-split": None, "-cigar": None},
-    "maskfasta": {"-fi": FILE, "-bed": FILE, "-fo": FILE, "-soft": None, "-mc": CHARACTER, "-fullHeader": None},
-}
-REQUIRED = {"complement": ["-g"], "intersect": ["-a", "-b"], "subtract": ["-a", "-b"], "genomecov": ["-g"],
-            "maskfasta": ["-fi", "-bed"]}
+FILE, NUMBER, SIGN, FRACTION, CHARACTER = r".+", r"[0-9]+", r"[+-]", r"[0-9]+|[0-9]*\.[0-9]{1,9}|[0-9]+\.", r"[!-~]"
+# The form of a value by the name that the pages give it; None where no value follows.
+FORMS = {"": None, **dict.fromkeys(FILES, FILE), "N": NUMBER, STRAND: SIGN, "F": FRACTION, "C": CHARACTER}
+COMMANDS = commands()
+# The options of each command, with the forms of their values.
+OPTIONS = {name: {option.word: FORMS[option.value] for option in command.options} for name, command in COMMANDS.items()}
 INPUTS = ("-i", "-g", "-a", "-b", "-fi", "-bed")
-SHAPES = ["-wa", "-wb", "-wo", "-u", "-v", "-c"]
-TOGETHER = [{"-wa", "-wb"}, {"-wa", "-u"}, {"-wa", "-v"}, {"-wa", "-c"}]
 
 
 def is_bad(form, value):
@@ -423,14 +414,19 @@ def given(command, words):
     return found, None
 
 
+def lacks(command, found):
+    """Whether an option isn't given that is required, nor another in its place."""
+    needed = [{option.word, *option.one_of()} for option in COMMANDS[command].options
+              if option.default == "required" or option.one_of()]
+    return any(not one_of & set(found) for one_of in needed)
+
+
 def excludes(command, found):
     """Whether options are given that exclude one another."""
-    shapes = [shape for shape in SHAPES if shape in found] if command == "intersect" else []
-    pairs = [{one, other} for one in shapes for other in shapes if one != other]
     output = found.get("-fo")
     is_over_input = output not in (None, "-", "stdout") and output in (found.get("-fi"), found.get("-bed"))
-    both = {"merge": {"-s", "-S"}, "maskfasta": {"-soft", "-mc"}}.get(command, {None})
-    return any(pair not in TOGETHER for pair in pairs) or both <= set(found) or is_over_input
+    return is_over_input or any(set(option.excludes) & set(found) for option in COMMANDS[command].options
+                                if option.word in found)
 
 
 def usage_of(words):
@@ -441,8 +437,7 @@ def usage_of(words):
     found, fault = given(command, words[1:])
     if fault:
         return fault
-    lacks_shape = command == "genomecov" and not {"-bg", "-bga"} & set(found)
-    if lacks_shape or any(option not in found for option in REQUIRED.get(command, [])):
+    if lacks(command, found):
         return "required option missing"
     if excludes(command, found):
         return "options exclude one another"

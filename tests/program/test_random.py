@@ -29,7 +29,7 @@ from dataclasses import dataclass, replace
 from pathlib import Path
 from typing import NamedTuple
 
-from tests.program.plain import OPTIONS, answer_of, usage_of
+from tests.program.plain import COMMANDS as KNOWN, OPTIONS, answer_of, usage_of
 from tests.program.random_inputs import KINDS, border_texts, good, line_ahead, random_words
 from tests.program.runs import MOST_MEMORY
 from tests.support import PROGRAM, Answer, Counted, each, kept, number, shortened, shown
@@ -87,21 +87,25 @@ class Command:
     options: list
 
 
-OF_MERGE = ["", "-d 3", "-s", "-s -d 7", "-S +", "-S -"]
-OF_INTERSECT = ["", "-wa", "-wb", "-wa -wb", "-wo", "-u", "-v", "-c", "-s", "-f 0.5 -r", "-f 0.1 -s -v", "-held 0",
-                "-c -held 1", "-held 3"]
-OF_SUBTRACT = ["", "-A", "-f 0.5", "-s", "-held 1", "-A -held 2"]
+def flags(command):
+    """The options of a command that have no value, each alone."""
+    return [option.word for option in KNOWN[command].options if not option.value]
+
+
+OF_MERGE = ["", *flags("merge"), "-d 3", "-s -d 7", "-S +", "-S -"]
+OF_INTERSECT = ["", *flags("intersect"), "-wa -wb", "-f 0.5 -r", "-f 0.1 -s -v", "-held 0", "-c -held 1", "-held 3"]
+OF_SUBTRACT = ["", *flags("subtract"), "-f 0.5", "-held 1", "-A -held 2"]
 COMMANDS = [
     Command("merge", "merge", ONE_INPUT, OF_MERGE),
     Command("merge by names", "merge", ONE_NAMED, OF_MERGE),
-    Command("complement", "complement", ONE_INPUT, ["", "-L"]),
+    Command("complement", "complement", ONE_INPUT, ["", *flags("complement")]),
     Command("intersect", "intersect", TWO_INPUTS, OF_INTERSECT),
     Command("subtract", "subtract", TWO_INPUTS, OF_SUBTRACT),
     Command("intersect by names", "intersect", TWO_NAMED, OF_INTERSECT),
     Command("subtract by names", "subtract", TWO_NAMED, OF_SUBTRACT),
-    Command("genomecov", "genomecov", ONE_INPUT, ["-bg", "-bga", "-bg -strand +", "-bga -strand -"]),
-    Command("bamtobed", "bamtobed", [Input("-i", "a.sam", "sam")], ["", "-split", "-cigar", "-split -cigar"]),
-    Command("maskfasta", "maskfasta", SEQUENCES, ["", "-soft", "-mc x", "-fullHeader"]),
+    Command("genomecov", "genomecov", ONE_INPUT, [*flags("genomecov"), "-bg -strand +", "-bga -strand -"]),
+    Command("bamtobed", "bamtobed", [Input("-i", "a.sam", "sam")], ["", *flags("bamtobed"), "-split -cigar"]),
+    Command("maskfasta", "maskfasta", SEQUENCES, ["", *flags("maskfasta"), "-mc x"]),
 ]
 
 

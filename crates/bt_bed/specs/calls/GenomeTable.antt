@@ -5,7 +5,7 @@ use Rattle.std.specs.declared.alloc.Global.{Global}
 use Rattle.bt_lines.specs.declared.device.Source.{Ghosts as Source}
 use Rattle.bt_lines.specs.model.Fault.{FaultValue}
 use Rattle.bt_lines.specs.calls.Names.{fault_value}
-use Rattle.bt_lines.specs.calls.Reader.{Hands, IsNear, IsSound, end_told, source_of, input_of, lines_given, fault_kept, has_ended, lines_left}
+use Rattle.bt_lines.specs.calls.Reader.{Hands, IsNear, IsSound, MayStillCome, end_told, source_of, input_of, lines_coming, lines_given, fault_kept, has_ended}
 use Rattle.bt_lines.specs.declared.fault.Fault.{Fault}
 use Rattle.bt_lines.specs.declared.fault.Kind.{Kind}
 use Rattle.bt_lines.specs.declared.reader.line_reader.LineReader.{LineReader}
@@ -54,21 +54,22 @@ is_genome_kind _ = false
 module _ {S : Type 0} where
   -- the whole genome file was read
   pub record ReadsAll (device : Source S) (old new : LineReader S) (genome : Genome) : Type 0 where
+    pub bytes : (bytes : List ℕ) × Hands device old bytes new
     pub was_going : fault_kept old ≡ None
-    pub is : IfSome (lines_left device.left old)
-        (λ lines. genome_of (input_of old) lines ≡ Ok (entries genome))
+    -- the bytes handed over were the last, and have these entries
+    pub is : genome_of (input_of old) (lines_coming bytes.0 old) ≡ Ok (entries genome)
     pub distinct : AreDistinct (names_of genome)
     pub ended : has_ended new ≡ true
     pub told : end_told new ≡ true
     pub going : fault_kept new ≡ None
     pub served : device.has_failed (source_of new) ≡ device.has_failed (source_of old)
-    pub bytes : (bytes : List ℕ) × Hands device old bytes new
 
   -- a line is at fault: the last one given
-  pub record EntryIsWrong (device : Source S) (old new : LineReader S)
+  pub record EntryIsWrong (device : Source S) (old : LineReader S) (bytes : List ℕ) (new : LineReader S)
       (fault : FaultValue) : Type 0 where
-    pub is : IfSome (lines_left device.left old) (λ lines. genome_of (input_of old) lines ≡ Err fault)
-    -- known or not, it is what is wrong with some text after some names
+    -- whatever follows, that is the fault
+    pub is : (rest : List ℕ) → MayStillCome new rest → genome_of (input_of old) (lines_coming (bytes ++ rest) old) ≡ Err fault
+    -- it is what is wrong with some text after some names
     pub kind : Kind
     pub names : List (List ℕ)
     pub text : List ℕ
@@ -79,33 +80,32 @@ module _ {S : Type 0} where
     pub served : device.has_failed (source_of new) ≡ device.has_failed (source_of old)
 
   -- a line couldn't be read, and no line before it was at fault
-  pub record EntryUnread (device : Source S)
-      (old new : LineReader S) (fault : FaultValue) : Type 0 where
+  pub record EntryUnread (device : Source S) (old : LineReader S) (bytes : List ℕ) (new : LineReader S)
+      (fault : FaultValue) : Type 0 where
     pub fails : ReadingFails device old new fault
-    pub passed : IfSome (lines_left device.left old) (λ lines. (entries : List Entry)
-        × (genome_of (input_of old) (take (lines_given new - lines_given old) lines) ≡ Ok entries))
+    pub passed : (rest : List ℕ) → MayStillCome new rest → (entries : List Entry)
+        × (genome_of (input_of old) (take (lines_given new - lines_given old) (lines_coming (bytes ++ rest) old)) ≡ Ok entries)
 
-  -- why the reading stopped
-  abbrev pub StopCause : Source S → LineReader S → LineReader S → FaultValue → Type 0
-  StopCause device old new fault =
-      EntryIsWrong device old new fault
-      ⊎ (EntryUnread device old new fault ⊎ MemoryRanOut device.has_failed old new fault)
+  -- why the reading stopped, once these bytes were handed over
+  abbrev pub StopCause : Source S → LineReader S → List ℕ → LineReader S → FaultValue → Type 0
+  StopCause device old bytes new fault =
+      EntryIsWrong device old bytes new fault
+      ⊎ (EntryUnread device old bytes new fault ⊎ MemoryRanOut device.has_failed old new fault)
 
   -- the reading stopped at a fault
   pub record ReadingStops (device : Source S)
       (old new : LineReader S) (fault : FaultValue) : Type 0 where
+    pub bytes : (bytes : List ℕ) × Hands device old bytes new
     -- a fault that the reader had is returned again, and nothing is read
     pub again : (before : FaultValue) → fault_kept old ≡ Some before → (fault ≡ before) × (new ≡ old)
     -- a reader that had none meets the first
-    pub first : fault_kept old ≡ None → StopCause device old new fault
+    pub first : fault_kept old ≡ None → StopCause device old bytes.0 new fault
     -- the fault of a line given comes before any other
-    pub checked : IfSome (lines_left device.left old) (λ lines. (other : FaultValue)
-        → genome_of (input_of old) (take (lines_given new - lines_given old) lines) ≡ Err other
-        → fault ≡ other)
-    pub bytes : (bytes : List ℕ) × Hands device old bytes new
-    -- of known bytes, those after the lines given and one line more are left,
-    -- except at most a block
-    pub near : fault_kept old ≡ None → IsSound device old → IsNear device.left old new
+    pub checked : (rest : List ℕ) → MayStillCome new rest → (other : FaultValue)
+        → genome_of (input_of old) (take (lines_given new - lines_given old) (lines_coming (bytes.0 ++ rest) old)) ≡ Err other
+        → fault ≡ other
+    -- what follows the lines given and one line more is still to come, except at most a block
+    pub near : fault_kept old ≡ None → IsNear old bytes.0 new
 
   -- what a result says
   abbrev pub GenomeAnswers : Source S → LineReader S → Result Genome Fault → LineReader S → Type 0

@@ -6,7 +6,7 @@ use Rattle.bt_lines.specs.calls.Faults.{no_memory}
 use Rattle.bt_lines.specs.model.Lines.{TextLine}
 use Rattle.bt_lines.specs.calls.Names.{fault_value}
 use Rattle.bt_lines.specs.calls.Output.{block_size}
-use Rattle.bt_lines.specs.calls.Reader.{CutsOff, Hands, IsKept, IsNear, IsReadFailed, end_told, held, input_of, source_of, lines_given, bytes_taken, has_ended, lines_left, room as line_room, fault_kept as line_fault}
+use Rattle.bt_lines.specs.calls.Reader.{CutsOff, Hands, IsKept, IsNear, IsReadFailed, MayStillCome, end_told, held, input_of, source_of, lines_coming, lines_given, bytes_taken, has_ended, lines_left, room as line_room, fault_kept as line_fault}
 use Rattle.bt_lines.specs.declared.fault.Fault.{Fault}
 use Rattle.bt_lines.specs.declared.fault.Input.{Input}
 use Rattle.bt_lines.specs.declared.fault.Kind.{Kind}
@@ -55,12 +55,6 @@ abbrev pub good_behind : {A State : Type 0} → Format A State → Input → Opt
 good_behind format input (Some fault) state lines = ends_with (Some fault)
 good_behind format input None state lines = good_after format input state lines
 
--- what was known stays what is still to come
-abbrev pub Remains : {A : Type 0} → Option (Good A) → Option (Good A) → Type 0
-Remains None new = ⊤
-Remains (Some good) None = ⊥
-Remains (Some good) (Some new) = new ≡ good
-
 -- why a line that says this gave no item: it is at fault, or memory ran out for its item
 abbrev pub IsLost : {A : Type 0} → Place → Result (Option A) Kind → FaultValue → Type 0
 IsLost place (Err kind) fault = fault ≡ fault_at_line place.input place.line kind
@@ -97,10 +91,10 @@ abbrev pub with_members : {A : Type 0} → List (Member A) → Good A → Good A
 with_members members good = record { members = members ++ good.members; fault = good.fault }
 
 module _ {S : Type 0} where
-  -- of known lines, those that were given aren't left
-  abbrev pub LinesPass : (S → Option (List ℕ)) → LineReader S → LineReader S → Type 0
-  LinesPass left old new = IfSome (lines_left left old) (λ lines.
-      lines_left left new ≡ Some (drop (lines_given new - lines_given old) lines))
+  -- once these bytes were handed over, the lines that come are those after the ones given, whatever follows
+  abbrev pub LinesPass : LineReader S → List ℕ → LineReader S → Type 0
+  LinesPass old bytes new = (rest : List ℕ) → MayStillCome new rest
+      → lines_coming rest new ≡ drop (lines_given new - lines_given old) (lines_coming (bytes ++ rest) old)
 
   -- the source failed, or its text is too long
   pub record ReadingFails (device : Source S)
@@ -128,17 +122,22 @@ module _ {S A State : Type 0} where
   abbrev pub line_of_ahead : MemberReader S A State → Option ℕ
   line_of_ahead reader = option_map (λ m. m.line) (ahead_in reader)
 
-  -- what is still to come, the members that are buffered included, if the source's bytes are known
+  -- what comes, the members that are buffered included, if these bytes come from the source
+  unfoldable pub coming : List ℕ → MemberReader S A State → Good A
+  coming rest reader =
+      good_behind reader.format (input_of reader.below) reader.fault reader.state (lines_coming rest reader.below)
+
+  -- the same, if the source's bytes are known
   unfoldable pub good_coming : (S → Option (List ℕ)) → MemberReader S A State → Option (Good A)
   good_coming left reader =
       option_map
       (good_behind reader.format (input_of reader.below) reader.fault reader.state)
       (lines_left left reader.below)
 
-  -- the members that are buffered are the first of those still to come
-  abbrev pub BeginsComing : (S → Option (List ℕ)) → MemberReader S A State → Type 0
-  BeginsComing left reader = IfSome (good_coming left reader) (λ good. (rest : List (Member A))
-      × (good.members ≡ members_from (suc (lines_given reader.below)) reader.buffered ++ rest))
+  -- the members that are buffered are the first of those that come, whatever follows
+  abbrev pub BeginsComing : MemberReader S A State → Type 0
+  BeginsComing reader = (rest : List ℕ) → MayStillCome reader.below rest → (more : List (Member A))
+      × ((coming rest reader).members ≡ members_from (suc (lines_given reader.below)) reader.buffered ++ more)
 
   -- how many bytes may still come: it never rises, and falls with each member taken
   abbrev pub room : MemberReader S A State → ℕ
@@ -152,13 +151,14 @@ module _ {S A State : Type 0} where
   -- a member is ahead
   pub record GivesMember (device : Source S)
       (old : MemberReader S A State) (m : Member A) (new : MemberReader S A State) : Type 0 where
+    pub stays : Stays device old new
     pub ahead : ahead_in new ≡ Some m
     pub state : new.state ≡ old.state
-    -- it is the first of what is still to come, if that is known, and nothing of it is lost
-    pub good : Remains (good_coming device.left old) (good_coming device.left new)
-    pub first : IfSome (good_coming device.left old) (λ good. (rest : List (Member A))
-        × (good.members ≡ m ∷ rest))
-    -- known or not, it is what a line says after the member before it
+    -- whatever follows the bytes handed over, nothing of what comes is lost, and the member is the first of it
+    pub good : (rest : List ℕ) → MayStillCome new.below rest → coming (stays.bytes.0 ++ rest) old ≡ coming rest new
+    pub first : (rest : List ℕ) → MayStillCome new.below rest → (more : List (Member A))
+        × ((coming (stays.bytes.0 ++ rest) old).members ≡ m ∷ more)
+    -- it is what a line says after the member before it
     pub said : IsSaidBehind old.format old.state m.item
     -- if it was ahead before, nothing is read
     pub again : IsSome (ahead_in old) → new ≡ old
@@ -170,39 +170,41 @@ module _ {S A State : Type 0} where
     -- after a fault none is given
     pub was_going : old.fault ≡ None
     pub goes : new.fault ≡ old.fault
-    pub stays : Stays device old new
-    pub lines : LinesPass device.left old.below new.below
-    -- of known bytes, those after the lines given and its own are left, except at most a block
-    pub near : IsNear device.left old.below new.below
+    pub below_goes : line_fault new.below ≡ None
+    pub lines : LinesPass old.below stays.bytes.0 new.below
+    -- what follows the lines given and its own is still to come, except at most a block
+    pub near : IsNear old.below stays.bytes.0 new.below
     pub shrinks : room new ≤ room old
 
   -- no member is left
   pub record EndsMembers (device : Source S) (old new : MemberReader S A State) : Type 0 where
-    pub none_left : IfSome (good_coming device.left old) (λ good. good ≡ ends_with None)
-    pub none_comes : IfSome (good_coming device.left new) (λ good. good ≡ ends_with None)
+    pub stays : Stays device old new
+    -- the bytes handed over were the last, and had none
+    pub none_left : coming stays.bytes.0 old ≡ ends_with None
+    pub none_comes : coming [] new ≡ ends_with None
     pub was_none : old.buffered ≡ []
     pub none_buffered : new.buffered ≡ []
     pub state : new.state ≡ old.state
     pub ends : has_ended new.below ≡ true
     pub told : end_told new.below ≡ true
     pub rises : lines_given old.below ≤ lines_given new.below
-    -- all known lines were given
-    pub lines : IfSome (lines_left device.left old.below) (λ lines.
-        drop (lines_given new.below - lines_given old.below) lines ≡ [])
+    -- all lines were given
+    pub lines : drop (lines_given new.below - lines_given old.below) (lines_coming stays.bytes.0 old.below) ≡ []
     -- once the end is reached, nothing more is read
     pub again : has_ended old.below ≡ true → new ≡ old
     pub served : device.has_failed (source_of new.below) ≡ device.has_failed (source_of old.below)
     -- after a fault no end is reported
     pub was_going : old.fault ≡ None
     pub goes : new.fault ≡ None
-    pub stays : Stays device old new
+    pub below_goes : line_fault new.below ≡ None
     pub shrinks : room new ≤ room old
 
   -- a line is at fault: the last one given
-  pub record LineIsWrong (device : Source S)
-      (old : MemberReader S A State) (fault : FaultValue) (new : MemberReader S A State) : Type 0 where
-    pub none_left : IfSome (good_coming device.left old) (λ good. good ≡ ends_with (Some fault))
-    -- known or not, it is what is wrong with some line after the last member
+  pub record LineIsWrong (device : Source S) (old : MemberReader S A State) (bytes : List ℕ)
+      (fault : FaultValue) (new : MemberReader S A State) : Type 0 where
+    -- whatever follows, that is all that comes
+    pub none_left : (rest : List ℕ) → MayStillCome new.below rest → coming (bytes ++ rest) old ≡ ends_with (Some fault)
+    -- it is what is wrong with a line after the last member
     pub kind : Kind
     pub line : TextLine
     pub says : old.format.says old.state line ≡ Err kind
@@ -214,22 +216,22 @@ module _ {S A State : Type 0} where
     -- after it at most a block is held
     pub near : length (held new.below) ≤ block_size
 
-  -- the lines that were given said nothing: what was still to come lies after them
-  abbrev pub SaidNothing : (S → Option (List ℕ)) → MemberReader S A State → MemberReader S A State
-      → Type 0
-  SaidNothing left old new = IfSome (good_coming left old) (IsBeyond (lines_given new.below))
+  -- the lines that were given said nothing: what comes lies after them, whatever follows
+  abbrev pub SaidNothing : MemberReader S A State → List ℕ → MemberReader S A State → Type 0
+  SaidNothing old bytes new = (rest : List ℕ) → MayStillCome new.below rest
+      → IsBeyond (lines_given new.below) (coming (bytes ++ rest) old)
 
   -- a line couldn't be read, and no line before it was at fault or had a member
-  pub record LineUnread (device : Source S)
-      (old : MemberReader S A State) (fault : FaultValue) (new : MemberReader S A State) : Type 0 where
+  pub record LineUnread (device : Source S) (old : MemberReader S A State) (bytes : List ℕ)
+      (fault : FaultValue) (new : MemberReader S A State) : Type 0 where
     pub fails : ReadingFails device old.below new.below fault
-    pub passed : SaidNothing device.left old new
+    pub passed : SaidNothing old bytes new
 
-  -- the last line given has the first member of what was still to come, which couldn't be kept
-  pub record LastUnkept (left : S → Option (List ℕ))
-      (old new : MemberReader S A State) : Type 0 where
-    pub first : IfSome (good_coming left old) (λ good. (item : A) × (rest : List (Member A))
-        × (good.members ≡ record { line = lines_given new.below; item = item } ∷ rest))
+  -- the last line given has the first member of what comes, whatever follows, and the member couldn't be kept
+  pub record LastUnkept (old : MemberReader S A State) (bytes : List ℕ)
+      (new : MemberReader S A State) : Type 0 where
+    pub first : (rest : List ℕ) → MayStillCome new.below rest → (item : A) × (more : List (Member A))
+        × ((coming (bytes ++ rest) old).members ≡ record { line = lines_given new.below; item = item } ∷ more)
     pub rises : lines_given old.below < lines_given new.below
     pub going : line_fault new.below ≡ None
     -- after it at most a block is held
@@ -237,37 +239,37 @@ module _ {S A State : Type 0} where
 
   -- memory ran out: for a line that couldn't be read, once those before it were checked, or for the
   -- member of the last line given, once it was
-  pub record RunsOut (device : Source S)
-      (old : MemberReader S A State) (fault : FaultValue) (new : MemberReader S A State) : Type 0 where
+  pub record RunsOut (device : Source S) (old : MemberReader S A State) (bytes : List ℕ)
+      (fault : FaultValue) (new : MemberReader S A State) : Type 0 where
     pub is : fault ≡ no_memory
-    pub checked : ((line_fault new.below ≡ Some no_memory) × SaidNothing device.left old new)
-        ⊎ LastUnkept device.left old new
+    pub checked : ((line_fault new.below ≡ Some no_memory) × SaidNothing old bytes new)
+        ⊎ LastUnkept old bytes new
     pub served : device.has_failed (source_of new.below) ≡ device.has_failed (source_of old.below)
 
-  -- why a fault came
-  abbrev pub Cause : Source S → MemberReader S A State
+  -- why a fault came, once these bytes were handed over
+  abbrev pub Cause : Source S → MemberReader S A State → List ℕ
       → FaultValue → MemberReader S A State → Type 0
-  Cause device old fault new =
-      LineIsWrong device old fault new ⊎ (LineUnread device old fault new
-      ⊎ RunsOut device old fault new)
+  Cause device old bytes fault new =
+      LineIsWrong device old bytes fault new ⊎ (LineUnread device old bytes fault new
+      ⊎ RunsOut device old bytes fault new)
 
   -- a fault was returned
   pub record AnswersFault (device : Source S)
       (old : MemberReader S A State) (fault : FaultValue) (new : MemberReader S A State) : Type 0 where
+    pub stays : Stays device old new
     pub kept : new.fault ≡ Some fault
     pub was_none : old.buffered ≡ []
     pub none_buffered : new.buffered ≡ []
     pub state : new.state ≡ old.state
     -- a fault is returned again, and nothing is read
     pub again : (before : FaultValue) → old.fault ≡ Some before → (fault ≡ before) × (new ≡ old)
-    pub first : old.fault ≡ None → Cause device old fault new
-    pub stays : Stays device old new
-    -- the lines that were given aren't left, if the line read last could be read
+    pub first : old.fault ≡ None → Cause device old stays.bytes.0 fault new
+    pub below_went : old.fault ≡ None → line_fault old.below ≡ None
+    -- if the line read last could be read, the lines that come are those after the ones given
     pub rises : lines_given old.below ≤ lines_given new.below
-    pub lines : line_fault new.below ≡ None → LinesPass device.left old.below new.below
-    -- of known bytes, those after the lines given and one line more are left,
-    -- except at most a block
-    pub near : old.fault ≡ None → IsKept device old.below → IsNear device.left old.below new.below
+    pub lines : line_fault new.below ≡ None → LinesPass old.below stays.bytes.0 new.below
+    -- what follows the lines given and one line more is still to come, except at most a block
+    pub near : old.fault ≡ None → IsNear old.below stays.bytes.0 new.below
 
   -- what `fill` returns: a member is buffered, or there is none, for good or after a fault
   abbrev pub FillAnswers : Source S → MemberReader S A State
@@ -288,15 +290,17 @@ module _ {S A State : Type 0} where
     pub buffered : old.buffered ≡ taken ++ new.buffered
     pub said : AreSaid old.format old.state taken
     pub state : new.state ≡ state_behind old.format old.state taken
-    pub good : option_map (with_members (members_from (suc (lines_given old.below)) taken))
-        (good_coming device.left new) ≡ good_coming device.left old
+    -- they are the first of what comes, and the others still come, whatever follows
+    pub good : (rest : List ℕ) → MayStillCome new.below rest
+        → coming rest old ≡ with_members (members_from (suc (lines_given old.below)) taken) (coming rest new)
     pub goes : new.fault ≡ old.fault
+    pub below_stays : line_fault new.below ≡ line_fault old.below
     pub format : new.format ≡ old.format
     pub given : lines_given new.below ≡ lines_given old.below + length taken
     pub below : lines_given new.below < 2 ^ 63
     pub hands : Hands device old.below [] new.below
     pub source : source_of new.below ≡ source_of old.below
-    pub lines : LinesPass device.left old.below new.below
+    pub lines : LinesPass old.below [] new.below
     pub kept : IsKept device old.below → IsKept device new.below
     -- after the lines at most a block is held
     pub near : 0 < length taken → length (held new.below) ≤ block_size

@@ -1,6 +1,6 @@
 -- What a reader of sorted records holds, and what the calls of one do.
-use Rattle.std.specs.Prelude.{◌≡◌, ℕ, List, [], ◌∷◌, drop, length, take, ◌-◌, ◌≤◌, ◌&&◌, not, Bool, true, false, Option, Some, None, Result, Ok, Err, IsTrue, option_map, IfSome, bytes_eq, ⊤}
-use Rattle.bt_lines.specs.calls.Reader.{BeginsLines, IsKept, TakenLines, TakesLines, buffered_bytes, buffered_in as lines_buffered, input_of, is_open, fault_kept as line_fault, lines_given}
+use Rattle.std.specs.Prelude.{◌≡◌, ℕ, List, [], ◌∷◌, ◌++◌, drop, length, take, ◌-◌, ◌≤◌, ◌&&◌, not, Bool, true, false, Option, Some, None, Result, Ok, Err, IsTrue, option_map, IfSome, bytes_eq, ⊤}
+use Rattle.bt_lines.specs.calls.Reader.{BeginsLines, Hands, IsKept, MayStillCome, TakenLines, TakesLines, buffered_bytes, buffered_in as lines_buffered, input_of, is_open, fault_kept as line_fault, lines_given}
 use Rattle.bt_bed.specs.model.Feature.{Feature}
 use Rattle.bt_bed.specs.calls.Features.{IsFeature}
 use Rattle.bt_bed.specs.calls.Bed.{is_some_left, last_start, feature_lent}
@@ -18,7 +18,7 @@ use Rattle.bt_lines.specs.declared.reader.line_reader.LineReader.{LineReader}
 use Rattle.bt_bed.specs.model.Good.{Member, or_else, bed_format, line_says, locus_at}
 use Rattle.bt_bed.specs.inside.OrderedLookahead.{IsElsewhere, KeepsLast, ahead_of, last_in, name_in, start_in as kept_start}
 use Rattle.bt_bed.specs.model.Sorted.{Locus, Sorting, falls_in}
-use Rattle.bt_bed.specs.calls.Reading.{AnswersFault, EndsMembers, FillAnswers, GivesMember, IsLost, IsSaidBehind, MemberReader, Takes, ahead_in, good_coming}
+use Rattle.bt_bed.specs.calls.Reading.{AnswersFault, EndsMembers, FillAnswers, GivesMember, IsLost, IsSaidBehind, MemberReader, Takes, ahead_in, coming}
 use Rattle.bt_bed.specs.declared.record.bed.BedRef.{BedRef}
 use Rattle.bt_bed.specs.declared.read.sorted.Sorted.{Ghosts as SortedGhosts}
 use Rattle.bt_bed.specs.declared.read.sorted_reader.SortedReader.{SortedReader}
@@ -143,11 +143,12 @@ module _ {S Q : Type 0} where
 
 -- the record of the last line given lies on another chromosome than the record consumed last, and its name couldn't be kept
 pub record NameUnkept {S : Type 0} (device : Source S) (old : MemberReader S Feature (Option Locus)) (new : LineReader S) : Type 0 where
+  pub bytes : (bytes : List ℕ) × Hands device old.below bytes new
   pub r : Feature
-  -- it is the first of what was still to come, if that is known
-  pub first : IfSome (good_coming device.left old) (λ good. (rest : List (Member Feature))
-      × (good.members ≡ record { line = lines_given new; item = r } ∷ rest))
-  -- known or not, it is what a line says after the record consumed last
+  -- it is the first of what comes, whatever follows
+  pub first : (rest : List ℕ) → MayStillCome new rest → (more : List (Member Feature))
+      × ((coming (bytes.0 ++ rest) old).members ≡ record { line = lines_given new; item = r } ∷ more)
+  -- it is what a line says after the record consumed last
   pub said : IsSaidBehind old.format old.state r
   pub elsewhere : IfSome old.state (λ last. bytes_eq last.chrom r.chrom ≡ false)
 

@@ -24,13 +24,13 @@ pub struct Blocks<S> {
 
 #[tactic(auto, unfolding(crate::specs::calls::SortedReader::view_with, crate::specs::calls::Blocks::view_of))]
 impl<S: Source> Blocks<S> {
-    ghost use Rattle.std.specs.Prelude.{◌≡◌, [], None, Some, IsSome, option_map};
+    ghost use Rattle.std.specs.Prelude.{◌≡◌, ℕ, List, [], None, Some, IsSome, option_map};
     ghost use Rattle.std.specs.Borrow.{sem};
     ghost use Rattle.std.specs.Io.BufRead.{Rests};
-    ghost use Rattle.bt_lines.specs.calls.Reader.{fault_kept as line_fault, input_of, lines_left};
+    ghost use Rattle.bt_lines.specs.calls.Reader.{fault_kept as line_fault, input_of, lines_coming};
     ghost use Rattle.bt_bed.specs.contracts.read.blocks.Blocks.{the_row};
     ghost use Rattle.bt_bed.specs.model.Good.{locus_at, good, block_format};
-    ghost use Rattle.bt_bed.specs.calls.Reading.{BeginsComing, ahead_in, good_coming, line_of_ahead};
+    ghost use Rattle.bt_bed.specs.calls.Reading.{BeginsComing, ahead_in, coming, line_of_ahead};
     ghost use Rattle.bt_bed.specs.calls.Blocks.{FillsBlocks, IsTaken, Lends, PeeksBlocks, TakesBlocks, below, buffered_in, count_in, fault_kept, view_of};
 
     /// A reader of the records that the reader of lines has left.
@@ -38,8 +38,8 @@ impl<S: Source> Blocks<S> {
     pub fn new(alloc: Global, reader: LineReader<S>) -> Blocks<S>
         ensures below { below result ≡ reader }
         ensures fault { fault_kept result ≡ line_fault reader }
-        ensures good { line_fault reader ≡ None → good_coming S.left (view_of result)
-            ≡ option_map (good block_format (input_of reader)) (lines_left S.left reader) }
+        ensures good { line_fault reader ≡ None → (rest : List ℕ) → coming rest (view_of result)
+            ≡ good block_format (input_of reader) (lines_coming rest reader) }
         ensures none_last { (view_of result).state ≡ None }
         ensures none_buffered { buffered_in result ≡ [] }
     {
@@ -62,7 +62,7 @@ impl<S: Source> Blocks<S> {
     /// The records that are buffered, on the chromosome of the first of them.
     pub fn buffered(&self) -> Batch<'_>
         ensures lends { Lends self.now result }
-        ensures comes { BeginsComing S.left (view_of self.now) }
+        ensures comes { BeginsComing (view_of self.now) }
     {
         self.sorted.buffered()
     }

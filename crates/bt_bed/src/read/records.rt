@@ -25,15 +25,15 @@ pub struct Records<'o, S, O: ChromOrder> {
 
 #[tactic(auto, unfolding(crate::specs::calls::SortedReader::view_with, crate::specs::calls::Records::view_of, crate::specs::calls::Records::order_in))]
 impl<'o, S: Source, O: ChromOrder> Records<'o, S, O> {
-    ghost use Rattle.std.specs.Prelude.{◌≡◌, [], ◌∷◌, List, None, Some, IsSome, option_map};
+    ghost use Rattle.std.specs.Prelude.{◌≡◌, ℕ, [], ◌∷◌, List, None, Some, IsSome, option_map};
     ghost use Rattle.std.specs.Borrow.{sem};
     ghost use Rattle.std.specs.Io.BufRead.{Rests};
     ghost use mir.Syntax.{named};
-    ghost use Rattle.bt_lines.specs.calls.Reader.{fault_kept as line_fault, input_of, lines_left};
+    ghost use Rattle.bt_lines.specs.calls.Reader.{fault_kept as line_fault, input_of, lines_coming};
     ghost use Rattle.bt_bed.specs.contracts.read.records.Records.{the_row};
     ghost use Rattle.bt_bed.specs.model.Good.{good, bed_format, locus_at};
     ghost use Rattle.bt_bed.specs.calls.Orders.{IsTotal};
-    ghost use Rattle.bt_bed.specs.calls.Reading.{BeginsComing, ahead_in, good_coming, line_of_ahead};
+    ghost use Rattle.bt_bed.specs.calls.Reading.{BeginsComing, ahead_in, coming, line_of_ahead};
     ghost use Rattle.bt_bed.specs.calls.Records.{FillsRecords, IsTaken, Lends, PeeksRecord, TakesRecords, below, buffered_in, count_in, fault_kept, last_locus, order_in, view_of};
 
     /// A reader of the records that the reader of lines has left.
@@ -42,9 +42,8 @@ impl<'o, S: Source, O: ChromOrder> Records<'o, S, O> {
         ensures order { order_in result ≡ O.order order.now }
         ensures total { IsTotal (order_in result) }
         ensures fault { fault_kept result ≡ line_fault reader }
-        ensures good { line_fault reader ≡ None → good_coming S.left (view_of result)
-            ≡ option_map (good (bed_format (sorting_of (O.order order.now))) (input_of reader))
-            (lines_left S.left reader) }
+        ensures good { line_fault reader ≡ None → (rest : List ℕ) → coming rest (view_of result)
+            ≡ good (bed_format (sorting_of (O.order order.now))) (input_of reader) (lines_coming rest reader) }
         ensures none_last { last_locus result ≡ None }
         ensures none_buffered { buffered_in result ≡ [] }
     {
@@ -67,7 +66,7 @@ impl<'o, S: Source, O: ChromOrder> Records<'o, S, O> {
     /// The records that are buffered, on the chromosome of the first of them.
     pub fn buffered(&self) -> Batch<'_>
         ensures lends { Lends self.now result }
-        ensures comes { BeginsComing S.left (view_of self.now) }
+        ensures comes { BeginsComing (view_of self.now) }
     {
         self.sorted.buffered()
     }

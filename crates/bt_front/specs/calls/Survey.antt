@@ -11,7 +11,7 @@ use Rattle.bt_front.specs.declared.survey.Survey.{Survey}
 use Rattle.bt_front.specs.declared.survey.oddity.OddLine.{OddLine}
 use Rattle.bt_front.specs.declared.survey.trouble.Trouble.{Trouble}
 use Rattle.bt_front.specs.declared.survey.trouble.Trouble.TheVariants.{ComesBack, Odd, Refused}
-use Rattle.bt_front.specs.model.Odd.{IsOddLine, is_plain, raw_lines}
+use Rattle.bt_front.specs.model.Odd.{IsOddLine}
 use Rattle.bt_front.specs.model.Survey.{IsSurveyOf, are_together, chroms_of, is_odd_record, is_plain_record, read_of}
 
 -- What leaves a text to bedtools.
@@ -63,19 +63,20 @@ module _ {S : Type 0} (device : Source S) (before after : S) where
     pub served : ReadsOn device.is_read before bytes after
     -- the end was reported
     pub told : device.end_told after ≡ true
-    -- no line is odd by its bytes, whatever the source
-    pub plain : list_all is_plain (raw_lines bytes) ≡ true
-    -- and if it is known what was left, that was read, and is as the survey says
-    pub known : (text : List ℕ) → device.left before ≡ Some text → (text ≡ bytes) × IsSurveyOf text survey
+    -- they are as the survey says, whatever the source
+    pub is : IsSurveyOf bytes survey
+    -- and if it is known what was left, that was read
+    pub known : (text : List ℕ) → device.left before ≡ Some text → text ≡ bytes
 
   -- something leaves the text to bedtools
   pub record LeavesText (trouble : Trouble) : Type 0 where
     -- the bytes that the reads of the call handed over: all of them served, or the last one failed
     pub bytes : List ℕ
     pub handed : ReadsOn device.is_read before bytes after ⊎ FailsAfter device.is_read before bytes after
-    -- if it is known what was left, these bytes come first in it, and it has this trouble
-    pub known : (text : List ℕ) → device.left before ≡ Some text
-        → ((rest : List ℕ) × (text ≡ bytes ++ rest)) × IsTroubleOf text trouble
+    -- whatever follows them, if anything does, the text has this trouble
+    pub is : (rest : List ℕ) → (device.end_told after ≡ true → rest ≡ []) → IsTroubleOf (bytes ++ rest) trouble
+    -- and if it is known what was left, they come first in it
+    pub known : (text : List ℕ) → device.left before ≡ Some text → (rest : List ℕ) × (text ≡ bytes ++ rest)
 
   -- what a call tells
   abbrev pub ReadsSurvey : Result Survey Trouble → Type 0

@@ -2,14 +2,14 @@
 use Rattle.std.specs.Prelude.{ℕ, suc, ◌≡◌, ◌+◌, ◌-◌, ◌^◌, ◌<◌, ◌≤◌, ◌||◌, Bool, true, false, ◌⊎◌, List, [], ◌∷◌, ◌++◌, length, map, max, min, Option, Some, None, Result, Ok, Err, IfSome}
 use Rattle.std.specs.List.{list_any}
 use Rattle.bt_lines.specs.declared.device.Source.{Ghosts as Source}
-use Rattle.bt_lines.specs.calls.Reader.{Hands, IsKept, end_told, lines_given, fault_kept as line_fault}
+use Rattle.bt_lines.specs.calls.Reader.{Hands, IsKept, end_told, lines_given, fault_kept as line_fault, MayStillCome}
 use Rattle.bt_bed.specs.model.Feature.{Feature, Interval, intervals_of, is_same_strand, length_of}
 use Rattle.bt_bed.specs.model.Good.{items_in}
 use Rattle.bt_bed.specs.model.Order.{is_among}
 use Rattle.bt_bed.specs.declared.record.strand.Strand.TheVariants.{Dot}
 use Rattle.bt_bed.specs.calls.Batch.{Passes, left, line_in}
 use Rattle.bt_bed.specs.calls.Blocks.{below, view_of}
-use Rattle.bt_bed.specs.calls.Reading.{BeginsComing, Takes, good_coming, is_of_line}
+use Rattle.bt_bed.specs.calls.Reading.{BeginsComing, Takes, coming, is_of_line}
 use Rattle.bt_bed.specs.declared.read.batch.Batch.{Batch}
 use Rattle.bt_bed.specs.declared.read.blocks.Blocks.{Blocks}
 use Rattle.bt_front.specs.declared.survey.Survey.{Survey}
@@ -115,7 +115,7 @@ module _ {S : Type 0} (device : Source S) (old new : Blocks S) where
     pub all : result ≡ Ok tt → rest ≡ []
     pub tells : (past : List Feature) → AreSeen past before
         → SeesAfter past (view_of old).buffered (lines_given (below old)) result after
-    pub comes : BeginsComing device.left (view_of old)
+    pub comes : BeginsComing (view_of old)
 
   -- all records of a reader were seen, and nothing in them leaves its text to bedtools
   pub record HasSeenAll (survey : Survey) : Type 0 where
@@ -123,12 +123,14 @@ module _ {S : Type 0} (device : Source S) (old new : Blocks S) where
     pub going : line_fault (below new) ≡ None
     pub told : end_told (below new) ≡ true
     pub kept : IsKept device (below new)
-    pub all : IfSome (good_coming device.left (view_of old)) (λ good. (good.fault ≡ None) × AreSeen (items_in good) survey)
+    pub faultless : (coming bytes.0 (view_of old)).fault ≡ None
+    pub records : AreSeen (items_in (coming bytes.0 (view_of old))) survey
 
   -- something does
   pub record StopsSeeing (trouble : Trouble) : Type 0 where
     pub bytes : (bytes : List ℕ) × Hands device (below old) bytes (below new)
-    pub trouble_is : IfSome (good_coming device.left (view_of old)) (λ good. IsTroubleIn good trouble)
+    pub kept : IsKept device (below new)
+    pub trouble_is : (rest : List ℕ) → MayStillCome (below new) rest → IsTroubleIn (coming (bytes.0 ++ rest) (view_of old)) trouble
 
   abbrev pub SeesAll : Result Unit Trouble → Survey → Type 0
   SeesAll (Ok done) survey = HasSeenAll survey

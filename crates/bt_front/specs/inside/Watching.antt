@@ -21,9 +21,9 @@ is_only_return watch = (watch.line == 1) && (watch.last == 13)
 abbrev pub is_blank_end : ByteWatch → Bool
 is_blank_end watch = (watch.line == 0) || is_only_return watch
 
--- whether the text begins as a gzip file
+-- whether bedtools takes the text for a gzip file, by its first byte
 abbrev pub is_gzip_at : ByteWatch → ℕ → Bool
-is_gzip_at watch byte = watch.is_first && ((watch.line == 1) && ((watch.first == 31) && (byte == 139)))
+is_gzip_at watch byte = watch.is_first && ((watch.line == 0) && (byte == 31))
 
 -- whether it begins with a byte order mark
 abbrev pub is_mark_at : ByteWatch → ℕ → Bool
@@ -35,7 +35,7 @@ abbrev pub odd_in_line : ByteWatch → ℕ → Option Oddity
 odd_in_line watch byte =
     if byte == 0 then Some Nul
     else (if (byte == 13) && (watch.last == 13) then Some DoubleReturn
-    else (if nat_lt 1022 watch.line then Some Long
+    else (if nat_lt 1014 watch.line then Some Long
     else (if next_vcf watch byte == 16 then Some Vcf
     else (if is_gzip_at watch byte then Some Gzip
     else (if is_mark_at watch byte then Some ByteOrderMark else None)))))
@@ -53,7 +53,7 @@ fed = record { last = 10; line = 0; vcf = 0; is_first = false; first = 0 }
 abbrev pub lengthened : ByteWatch → ℕ → ByteWatch
 lengthened watch byte = record {
   last = byte;
-  line = if nat_lt 1023 watch.line then watch.line else suc watch.line;
+  line = if nat_lt 1015 watch.line then watch.line else suc watch.line;
   vcf = next_vcf watch byte;
   is_first = watch.is_first;
   first = if watch.line == 0 then byte else watch.first;
@@ -94,7 +94,7 @@ abbrev pub may_be_odd : ByteWatch → ℕ → Bool
 may_be_odd watch byte =
     ((byte == 10) && is_blank_end watch)
     || (watch.is_first && may_begin (if watch.line == 0 then byte else watch.first))
-    || nat_lt 0 watch.vcf || nat_lt 1023 watch.line
+    || nat_lt 0 watch.vcf || nat_lt 1015 watch.line
 
 -- the same of the first of some bytes
 abbrev pub may_be_odd_first : ByteWatch → List ℕ → Bool
@@ -109,6 +109,6 @@ pub record AreQuiet (watch : ByteWatch) (bytes : List ℕ) : Type 0 where
 -- the watch passed some bytes, the last of which may make a line too long
 pub record IsPassed (watch : ByteWatch) (bytes : List ℕ) (new : ByteWatch) : Type 0 where
   pub is : new ≡ after watch bytes
-  pub plain : new.line ≤ 1023 → are_plain watch bytes ≡ true
-  pub long : 1023 < new.line → (front : List ℕ) × (byte : ℕ) × (bytes ≡ front ++ byte ∷ [])
+  pub plain : new.line ≤ 1015 → are_plain watch bytes ≡ true
+  pub long : 1015 < new.line → (front : List ℕ) × (byte : ℕ) × (bytes ≡ front ++ byte ∷ [])
       × (are_plain watch front ≡ true) × (oddity_at (after watch front) byte ≡ Some Long)

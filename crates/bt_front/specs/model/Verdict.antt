@@ -1,5 +1,5 @@
 -- For which texts bedtools takes a command line, and by which order of the chromosomes Dunekettle takes the others.
-use Rattle.std.specs.Prelude.{ℕ, Bool, true, false, ◌&&◌, ◌||◌, ◌==◌, ◌%◌, not, List, [], ◌∷◌, codes, nat_le, nat_lt, if◌then◌else◌, Option, Some, None, Result, Ok, Err, is_some, option_map}
+use Rattle.std.specs.Prelude.{ℕ, Bool, true, false, ◌&&◌, ◌||◌, ◌==◌, ◌%◌, not, List, [], ◌∷◌, codes, length, nat_le, nat_lt, if◌then◌else◌, Option, Some, None, Result, Ok, Err, is_some, option_map}
 use Rattle.std.specs.List.{list_all, list_any}
 use Rattle.std.specs.Option.{option_to_list}
 use Rattle.bt_bed.specs.model.Genome.{Entry, genome_names}
@@ -17,7 +17,7 @@ use Rattle.bt_front.specs.declared.verdict.naming.Naming.TheVariants.{Bare, Pref
 use Rattle.bt_front.specs.declared.verdict.reason.InOrderOf.{InOrderOf}
 use Rattle.bt_front.specs.declared.verdict.reason.InOrderOf.TheVariants.{Bytes, GenomeFile, Found}
 use Rattle.bt_front.specs.declared.verdict.reason.Reason.{Reason}
-use Rattle.bt_front.specs.declared.verdict.reason.Reason.TheVariants.{NoSurvey, NoStrand, MixedNames, LongForFraction, NoGenome, NotByGenome, PastLength, LongChromosome, EmptyNotLast, ManyRecords, NotByBytes, NoCommonOrder}
+use Rattle.bt_front.specs.declared.verdict.reason.Reason.TheVariants.{NoSurvey, NoStrand, MixedNames, LongForFraction, NoGenome, NotByGenome, PastLength, LongChromosome, LongName, EmptyNotLast, ManyRecords, NotByBytes, NoCommonOrder}
 use Rattle.bt_front.specs.model.Extents.{extents_in, names_in, ascend_by_bytes}
 use Rattle.bt_front.specs.model.Fitting.{are_first, are_in_order, common_names, ends_fit}
 use Rattle.bt_front.specs.model.Odd.{begins_as}
@@ -57,6 +57,11 @@ needs_genome _ = false
 abbrev pub is_coverage : Command → Bool
 is_coverage (Coverage zeros strand) = true
 is_coverage _ = false
+
+-- whether it writes gaps
+abbrev pub writes_gaps : Command → Bool
+writes_gaps (Complement limit) = true
+writes_gaps _ = false
 
 -- whether it writes those of depth 0 too
 abbrev pub writes_zeros : Command → Bool
@@ -147,6 +152,10 @@ text_rows command first second =
 abbrev pub longest_chromosome : ℕ
 longest_chromosome = 2147483647
 
+-- how many bytes a name has with which a gap of any chromosome fits into the 1,023 bytes after which bedtools cuts it
+abbrev pub longest_name : ℕ
+longest_name = 900
+
 -- whether a text fits a genome file: its chromosomes are in that order, its ends in their lengths, or those that it
 -- doesn't have come last
 abbrev pub is_by_genome : List Entry → Survey → Bool
@@ -164,6 +173,7 @@ genome_rows command first second entries =
     (not (list_all (is_by_genome entries) (texts_of first second)), NotByGenome)
     ∷ (needs_genome command && not (is_in_lengths entries first), PastLength)
     ∷ (is_coverage command && list_any (λ entry. nat_lt longest_chromosome entry.length) entries, LongChromosome)
+    ∷ (writes_gaps command && list_any (λ name. nat_lt longest_name (length name)) (genome_names entries), LongName)
     ∷ (writes_zeros command && not (begins_genome entries first), EmptyNotLast)
     ∷ []
 

@@ -1,6 +1,6 @@
 //! Whether the chromosomes of an input fit those of a genome file.
 
-ghost use Rattle.std.specs.Prelude.{◌≡◌, nat_lt};
+ghost use Rattle.std.specs.Prelude.{◌≡◌, length, nat_lt};
 ghost use Rattle.std.specs.List.{list_any};
 ghost use Rattle.bt_bed.specs.model.Order.{rank_order};
 ghost use Rattle.bt_bed.specs.calls.GenomeTable.{entries, names_of};
@@ -68,6 +68,18 @@ pub(crate) fn has_longer(genome: &Genome, length: u64) -> bool
 {
     for rank in 0..genome.count() {
         if length < genome.length(rank) {
+            return true;
+        }
+    }
+    false
+}
+
+/// Whether the genome file has a name of more bytes than this.
+pub(crate) fn has_longer_name(genome: &Genome, most: usize) -> bool
+    ensures { result ≡ list_any (λ name. nat_lt most (length name)) (names_of genome.now) }
+{
+    for rank in 0..genome.count() {
+        if most < genome.name(rank).len() {
             return true;
         }
     }

@@ -10,7 +10,7 @@ use memchr::memrchr;
 use std::simd::prelude::*;
 
 // The most bytes of a line that bedtools takes.
-const LONGEST: usize = 1023;
+const LONGEST: usize = 1015;
 
 // How many bytes the beginning of VCF has.
 const VCF_LENGTH: usize = 16;
@@ -127,7 +127,7 @@ impl ByteWatch {
         self.line == 1 && self.last == b'\r'
     }
 
-    // Of bytes that have nothing else that is odd: from each line feed that a line of at most 1,023 bytes may have to the
+    // Of bytes that have nothing else that is odd: from each line feed that a line of at most 1,015 bytes may have to the
     // next such one.
     fn pass_lines(&mut self, block: &[u8]) -> Option<OddBytes>
         requires some { 0 < length block.now }
@@ -154,12 +154,12 @@ impl ByteWatch {
     #[inline(always)]
     fn pass_window(&mut self, window: &[u8]) -> usize
         requires some { 0 < length window.now }
-        requires short { self.old.line + length window.now ≤ 1024 }
+        requires short { self.old.line + length window.now ≤ 1016 }
         ensures within { result ≤ length window.now }
         ensures some { 0 < result }
         ensures passed { (rest : List ℕ) → AreQuiet self.old (window.now ++ rest)
             → IsPassed self.old (take result window.now) self.new }
-        ensures quiet { (rest : List ℕ) → AreQuiet self.old (window.now ++ rest) → self.new.line ≤ 1023
+        ensures quiet { (rest : List ℕ) → AreQuiet self.old (window.now ++ rest) → self.new.line ≤ 1015
             → AreQuiet self.new (drop result window.now ++ rest) }
     {
         match memrchr(b'\n', window) {
@@ -226,7 +226,7 @@ impl ByteWatch {
             Some(Oddity::Long)
         } else if self.next_vcf(byte) == VCF_LENGTH {
             Some(Oddity::Vcf)
-        } else if self.is_first && self.line == 1 && self.first == 0x1f && byte == 0x8b {
+        } else if self.is_first && self.line == 0 && byte == 0x1f {
             Some(Oddity::Gzip)
         } else if self.is_first
             && self.line == 2

@@ -9,13 +9,14 @@ pub enum Oddity {
     DoubleReturn,
     /// It has a NUL, after which bedtools leaves out the rest of the column.
     Nul,
-    /// It has more than 1,023 bytes, after which bedtools cuts lines of some numbers of columns.
+    /// It has more than 1,015 bytes. bedtools cuts lines of some numbers of columns after 1,023 bytes as it writes them, when a
+    /// start may have eight digits more.
     Long,
     /// It begins as the first line of VCF, so that bedtools reads the text as VCF.
     Vcf,
     /// The text begins with a byte order mark, which bedtools refuses.
     ByteOrderMark,
-    /// The text begins as a gzip file.
+    /// The text begins with the byte 1f, by which bedtools takes it for a gzip file.
     Gzip,
     /// Its chromosome's name is one that bedtools may pass over, as a header line's first word.
     HeaderName,

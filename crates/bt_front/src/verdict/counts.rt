@@ -1,7 +1,7 @@
 //! What of the texts counts for a command.
 
 ghost use Rattle.std.specs.Prelude.{◌≡◌};
-ghost use Rattle.bt_front.specs.model.Verdict.{has_survey, is_coverage, lists_hits, needs_genome, needs_strand, rule_of, writes_zeros};
+ghost use Rattle.bt_front.specs.model.Verdict.{has_survey, is_coverage, lists_hits, needs_genome, needs_strand, rule_of, writes_gaps, writes_zeros};
 
 use bt_runs::MergeStrand;
 use bt_sweep::{HitRule, Shape};
@@ -54,6 +54,13 @@ pub(crate) fn is_coverage(command: Command) -> bool
     ensures { result ≡ is_coverage command }
 {
     matches!(command, Command::Coverage { .. })
+}
+
+/// Whether it writes gaps.
+pub(crate) fn writes_gaps(command: Command) -> bool
+    ensures { result ≡ writes_gaps command }
+{
+    matches!(command, Command::Complement { .. })
 }
 
 /// Whether it writes depths of 0 too.

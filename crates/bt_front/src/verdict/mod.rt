@@ -10,14 +10,16 @@ mod tests;
 ghost use Rattle.std.specs.Prelude.{◌≡◌, option_copied, option_map};
 ghost use Rattle.std.specs.List.{list_all, list_any};
 ghost use Rattle.bt_bed.specs.calls.GenomeTable.{entries};
-ghost use Rattle.bt_front.specs.model.Verdict.{are_all_named, are_by_bytes, are_long_for, are_named_alike, genome_rows, have_common_order, is_by_genome, is_long_for, lacks_strand, longest_chromosome, open_rows, order_of, text_rows, texts_of, verdict_of};
+ghost use Rattle.bt_front.specs.model.Verdict.{are_all_named, are_by_bytes, are_long_for, are_named_alike, genome_rows, have_common_order, is_by_genome, is_long_for, lacks_strand, longest_chromosome, longest_name, open_rows, order_of, text_rows, texts_of, verdict_of};
 ghost use Rattle.bt_front.specs.model.Words.{first_of};
 
 use crate::order::common_order::has_common_order;
-use crate::order::fitting::{are_first_of, fits_lengths, has_longer, is_in_order_of};
+use crate::order::fitting::{
+    are_first_of, fits_lengths, has_longer, has_longer_name, is_in_order_of,
+};
 use crate::survey::Survey;
 use crate::verdict::counts::{
-    has_survey, is_coverage, needs_genome, needs_strand, rule_of, writes_zeros,
+    has_survey, is_coverage, needs_genome, needs_strand, rule_of, writes_gaps, writes_zeros,
 };
 use crate::verdict::exact::exact_below;
 use crate::verdict::naming::{Naming, are_named};
@@ -29,6 +31,9 @@ use bt_tool::Command;
 
 // From this many records on a depth may have seven digits.
 const MANY_RECORDS: u64 = 1_000_000;
+
+// The longest name of a chromosome whose gaps bedtools always writes whole.
+const LONGEST_NAME: usize = 900;
 
 // The longest chromosome of which bedtools counts depths.
 const LONGEST_CHROMOSOME: u64 = 2_147_483_647;
@@ -146,6 +151,8 @@ fn genome_reason(
         Some(Reason::PastLength)
     } else if is_coverage(command) && has_longer(genome, LONGEST_CHROMOSOME) {
         Some(Reason::LongChromosome)
+    } else if writes_gaps(command) && has_longer_name(genome, LONGEST_NAME) {
+        Some(Reason::LongName)
     } else if writes_zeros(command) && !are_first_of(&first.chromosomes, genome) {
         Some(Reason::EmptyNotLast)
     } else {

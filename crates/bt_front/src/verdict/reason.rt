@@ -19,6 +19,8 @@ pub enum Reason {
     PastLength,
     /// `genomecov`: the genome file has a chromosome of over 2,147,483,647 bases.
     LongChromosome,
+    /// `complement`: a name of over 900 bytes in the genome file, with which bedtools may cut a line that it writes.
+    LongName,
     /// `genomecov -bga`: a chromosome without records isn't among the last, where bedtools has such.
     EmptyNotLast,
     /// `genomecov`: a million records may lie on one another, and bedtools rounds such a depth.

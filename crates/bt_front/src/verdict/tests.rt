@@ -229,3 +229,32 @@ fn hits_are_listed(rt: HostRuntime) -> Result<(), Fail> {
     }
     Ok(())
 }
+
+// The verdict on a text without records, with a genome file whose one name has this many bytes.
+fn verdict_by_name(
+    alloc: Global,
+    line: &str,
+    count: u64,
+) -> Result<Result<InOrderOf, Reason>, Fail> {
+    let mut text = Vec::new(alloc);
+    for _ in 0..count {
+        text.push(b'n')?;
+    }
+    text.extend_from_slice(b"\t5\n")?;
+    let genome = genome(alloc, text.as_slice())?;
+    let first = survey(alloc, ("", FEW))?;
+    Ok(asked(alloc, line)?.verdict(&first, None, Some(&genome)))
+}
+
+#[test]
+fn long_names_are_found(rt: HostRuntime) -> Result<(), Fail> {
+    for (line, count, want) in [
+        ("complement -i a -g g", 900, BY_GENOME),
+        ("complement -i a -g g", 901, Err(Reason::LongName)),
+        ("genomecov -bg -i a -g g", 901, BY_GENOME),
+    ] {
+        let got = verdict_by_name(rt.alloc(), line, count)?;
+        assert_eq!(rt; got, want, "{line}, {count}");
+    }
+    Ok(())
+}

@@ -18,12 +18,6 @@ line_seen line = record { number = line.number; text = line.text.now; ending = l
 abbrev pub NoLineFeed : List ℕ → Type 0
 NoLineFeed bytes = All (λ byte. (byte == 10) ≡ false) bytes
 
--- the first of the lines that are left, if these are known, was given
-abbrev pub GivesFirst : Option (List TextLine) → TextLine → Option (List TextLine) → Type 0
-GivesFirst None line new = ⊤
-GivesFirst (Some old) line None = ⊥
-GivesFirst (Some old) line (Some new) = old ≡ line ∷ new
-
 -- The first line of some bytes.
 
 -- the text of a line and its size

@@ -85,11 +85,6 @@ left_at false held left = prepend_known held left
 abbrev pub IsReadFailed : Option FaultValue → Type 0
 IsReadFailed kept = (input : Input) × (line : ℕ) × (kept ≡ Some (read_failed input line))
 
--- the first `count` lines are gone, if they were known
-abbrev pub DropsLines : Option (List TextLine) → ℕ → Option (List TextLine) → Type 0
-DropsLines None count new = ⊤
-DropsLines (Some lines) count new = new ≡ Some (drop count lines)
-
 module _ {S : Type 0} where
   unfoldable pub source_of : LineReader S → S
   source_of reader = reader.source
@@ -136,8 +131,8 @@ module _ {S : Type 0} where
   lines_coming rest reader = lines_from (suc (lines_given reader)) (held reader ++ rest)
 
   -- these bytes may still come: none once the end was reported
-  abbrev pub MayFollow : LineReader S → List ℕ → Type 0
-  MayFollow reader rest = end_told reader ≡ true → rest ≡ []
+  abbrev pub MayStillCome : LineReader S → List ℕ → Type 0
+  MayStillCome reader rest = end_told reader ≡ true → rest ≡ []
 
   -- how many line feeds were taken: each ended a line that was given, or is held
   unfoldable pub feeds_taken : LineReader S → ℕ
@@ -154,8 +149,8 @@ module _ {S : Type 0} where
     -- without a fault, at most a block is held after the lines given
     pub near : fault_kept reader ≡ None → length (held reader) ≤ block_size
 
-  -- Whatever the source, these bytes came by reads that succeeded: too many of them if a failed read is kept since then.
-  -- Or they came by others and one that failed, the last one, and a failed read is kept.
+  -- How these bytes came, whatever the source. Either every read succeeded, and a failed read is kept since then only if
+  -- the text passed the bound. Or the last read failed, and it is kept.
   unfoldable pub AreRead : Source S → LineReader S → List ℕ → LineReader S → Type 0
   AreRead device old bytes new =
       (ReadsOn device.is_read (source_of old) bytes (source_of new)
@@ -191,7 +186,7 @@ module _ {S : Type 0} where
     -- the bytes taken are the line's and at most a block more; it is the first of the lines that come, whatever follows
     pub bytes : (bytes : List ℕ) × Hands device old bytes new
         × (held old ++ bytes ≡ spelled line ++ held new)
-        × ((rest : List ℕ) → MayFollow new rest → lines_coming (bytes ++ rest) old ≡ line ∷ lines_coming rest new)
+        × ((rest : List ℕ) → MayStillCome new rest → lines_coming (bytes ++ rest) old ≡ line ∷ lines_coming rest new)
     pub ahead : length (held new) ≤ block_size
     -- nothing is read while a complete line is held
     pub ready : 0 < line_feeds (held old) → source_of new ≡ source_of old
@@ -231,12 +226,11 @@ module _ {S : Type 0} where
     pub given : lines_given new
         ≡ feeds_taken old + line_feeds (take (2 ^ 63 - 1 - bytes_taken old) bytes)
 
-  -- of known bytes, those after the lines given and one more line are left,
+  -- once these bytes were handed over, what follows the lines given and one line more is still to come, whatever it is,
   -- except at most a block
-  abbrev pub IsNear : (S → Option (List ℕ)) → LineReader S → LineReader S → Type 0
-  IsNear left old new =
-      IfSome (lines_left left old) (λ lines. IfSome (left (source_of new)) (λ rest.
-      bytes_in (drop (suc (lines_given new) - lines_given old) lines) ≤ length rest + block_size))
+  abbrev pub IsNear : LineReader S → List ℕ → LineReader S → Type 0
+  IsNear old bytes new = (rest : List ℕ) → MayStillCome new rest
+      → bytes_in (drop (suc (lines_given new) - lines_given old) (lines_coming (bytes ++ rest) old)) ≤ length rest + block_size
 
   -- a fault was returned
   pub record GivesFault (device : Source S) (old : LineReader S)
@@ -254,9 +248,8 @@ module _ {S : Type 0} where
     pub first : fault_kept old ≡ None → FailsToRead device old fault new ⊎ (fault ≡ no_memory)
     pub cut_off : fault_kept old ≡ None → fault ≡ read_failed (input_of old) (suc (lines_given old))
         → CutsOff device old new
-    -- of known bytes, those after the line that couldn't be given are left,
-    -- except at most a block
-    pub near : fault_kept old ≡ None → IsNear device.left old new
+    -- what follows the line that couldn't be given is still to come, except at most a block
+    pub near : fault_kept old ≡ None → IsNear old bytes.0 new
     pub served : fault ≡ no_memory → device.has_failed (source_of new) ≡ device.has_failed (source_of old)
 
   -- what a result says
@@ -331,7 +324,7 @@ module _ {S : Type 0} where
 
   -- the lines that come begin with those that are buffered, whatever follows
   abbrev pub IsPrefix : LineReader S → Type 0
-  IsPrefix reader = (rest : List ℕ) → MayFollow reader rest
+  IsPrefix reader = (rest : List ℕ) → MayStillCome reader rest
       → take (length (buffered_in reader)) (lines_coming rest reader) ≡ buffered_in reader
 
   -- lines were consumed of those that are buffered
@@ -356,7 +349,7 @@ module _ {S : Type 0} where
     -- after the lines at most a block is held
     pub near : 0 < consumed.bytes → length (held new) ≤ block_size
     -- of the lines that come, the first `count` are gone, whatever follows
-    pub left_is : (rest : List ℕ) → MayFollow new rest
+    pub left_is : (rest : List ℕ) → MayStillCome new rest
         → lines_coming rest new ≡ drop (line_feeds (take consumed.bytes (buffered_bytes old))) (lines_coming rest old)
     pub bytes : buffered_bytes new ≡ drop consumed.bytes (buffered_bytes old)
     pub given : lines_given new ≡ consumed.lines

@@ -64,7 +64,6 @@ module _ {S A State : Type 0} (device : Source S) where
   pub record HasTaken (old : MemberReader S A State) (taken : List A)
       (new : MemberReader S A State) : Type 0 where
     pub takes : Takes device old taken new
-    pub clear : new.fault ≡ None → line_fault new.below ≡ None
     pub ahead : AheadComes new
 
   module _ (old : MemberReader S A State) where
@@ -191,6 +190,7 @@ module _ {S A State : Type 0} (device : Source S) where
         × (feeds_taken reader.below ≡ 0)
     pub none_buffered : reader.buffered ≡ []
     pub going : reader.fault ≡ None
+    pub clear : line_fault reader.below ≡ None
     pub sound : IsSound device reader.below
 
 module _ {S A State : Type 0} (settled : List A → List ℕ) (Kinds : Kind → Type 0)

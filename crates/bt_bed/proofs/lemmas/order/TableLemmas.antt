@@ -2,7 +2,7 @@
 use Rattle.bt_lines.proofs.Std.{common_steps, rules, ◌≡◌, ℕ, arith, false, List, [], ◌∷◌, ◌++◌, Option, Some, None, Result, Ok, Err, refl, sym, ap, ◌∙◌, append_assoc, append-nil, bytes_eq, or_parts, ◌⊎◌, IsErrAnd, OnOk, OnErr, inl, inr, suc, ◌+◌, ◌-◌, ◌^◌, ◌<◌, ◌≤◌, length, take, drop, IfSome, zero, true, map, subst, length-append, All-head, All-tail, All, Vec, is_some, option_map, position, slice_get, option_to_list, map-append, slice_get-map, position_from, keys_of, position_from-zero}
 use Rattle.bt_lines.specs.model.Fault.{FaultValue, read_failed}
 use Rattle.bt_lines.specs.calls.Faults.{no_memory}
-use Rattle.bt_lines.specs.model.Lines.{TextLine, bytes_in}
+use Rattle.bt_lines.specs.model.Lines.{TextLine}
 use Rattle.bt_lines.specs.declared.fault.Input.{Input}
 use Rattle.bt_lines.specs.declared.fault.Kind.{Kind}
 use Rattle.bt_bed.specs.model.Order.{is_among, rank_of}
@@ -14,15 +14,13 @@ use Rattle.bt_lines.specs.declared.fault.Place.{Place}
 use Rattle.bt_bed.specs.calls.Reading.{IsLost, LinesPass}
 use Rattle.bt_bed.specs.model.BedLine.{fault_at_line}
 use Rattle.bt_lines.specs.declared.device.Source.{Ghosts as Source}
-use Rattle.bt_lines.proofs.lemmas.reader.block.ReadsLemmas.{hands_none, hands_both, memory_failed, none_failed}
-use Rattle.bt_lines.proofs.lemmas.reader.lines.LeftLemmas.{given_left, none_left}
-use Rattle.bt_lines.proofs.lemmas.reader.lines.TakingLemmas.{given_drops, sound_near, taken_below, not_told}
+use Rattle.bt_lines.proofs.lemmas.reader.block.ReadsLemmas.{comes_before, hands_none, hands_both, memory_failed, none_failed}
+use Rattle.bt_lines.proofs.lemmas.reader.lines.LeftLemmas.{none_came}
+use Rattle.bt_lines.proofs.lemmas.reader.lines.TakingLemmas.{taken_below, not_told}
 use Rattle.bt_lines.proofs.lemmas.reader.lines.TextLemmas.{line_feeds-append}
-use Rattle.bt_lines.specs.calls.Output.{block_size}
-use Rattle.bt_lines.specs.calls.Reader.{CutsOff, GivesFault, GivesLine, Hands, IsNear, IsSound, bytes_taken, fault_kept, input_of, lines_given, lines_left, source_of, end_told, GivesEnd, FailsToRead}
+use Rattle.bt_lines.specs.calls.Reader.{CutsOff, GivesFault, GivesLine, Hands, IsNear, IsSound, MayStillCome, bytes_taken, fault_kept, input_of, lines_coming, lines_given, source_of, end_told, GivesEnd, FailsToRead}
 use Rattle.bt_lines.specs.declared.reader.line_reader.LineReader.{LineReader}
-use Rattle.bt_bed.proofs.lemmas.read.good.ReadingLemmas.{front_of_both, near_pass, pass_more}
-use Rattle.bt_lines.specs.calls.Line.{GivesFirst}
+use Rattle.bt_bed.proofs.lemmas.read.good.ReadingLemmas.{front_of_both, near_after, near_pass, none_pass, one_passes, pass_more}
 use Rattle.bt_bed.proofs.lemmas.order.OrderLemmas.{among_ranked}
 use Rattle.std.specs.declared.alloc.Global.{Global}
 use Rattle.indexmap.specs.IndexMap.{insert_entry}
@@ -122,32 +120,26 @@ module _ {A : Type 0} (place : Place) where
 
 -- Lemmas on lines that were given one after another.
 
-near_fewer : (a : Option (List TextLine)) (rest : Option (List ℕ)) → IfSome a (λ all. IfSome rest (λ bytes. bytes_in all ≤ length bytes + block_size))
-    → IfSome a (λ all. IfSome rest (λ bytes. bytes_in (drop 1 all) ≤ length bytes + block_size))
-near_fewer a rest h = grind (arith, common_steps)
-
 module _ {S : Type 0} (device : Source S) where
   -- lines were given, in some calls one after another
   pub record Passed (old now : LineReader S) : Type 0 where
-    pub lines : LinesPass device.left old now
-    pub least : lines_given old ≤ lines_given now
     pub bytes : (bytes : List ℕ) × Hands device old bytes now
+    pub lines : LinesPass old bytes.0 now
+    pub least : lines_given old ≤ lines_given now
     pub sound : IsSound device old → IsSound device now
 
   module _ (old now new : LineReader S) (p : Passed old now) where
-    pub passed_line : (line : TextLine) → GivesLine device now line new → (IsSound device now → IsSound device new) → Passed old new
+    abbrev pub passed_line : (line : TextLine) → GivesLine device now line new → (IsSound device now → IsSound device new) → Passed old new
     passed_line line gives sound = record {
-      lines = pass_more (lines_left device.left old) (lines_left device.left now) (lines_left device.left new) (lines_given now - lines_given old) 1 (lines_given new - lines_given old) p.lines (given_drops (lines_left device.left now) line (lines_left device.left new) (given_left device now new line gives)) (let one = gives.counted in let least = p.least in omega arith);
-      least = let one = gives.counted in let least = p.least in omega arith;
       bytes = (p.bytes.0 ++ gives.bytes.0, hands_both device old now new p.bytes.0 gives.bytes.0 p.bytes.1 gives.bytes.1);
+      lines = pass_more device old now new p.bytes.0 gives.bytes.0 gives.bytes.1 p.lines (one_passes now new gives.bytes.0 line gives.bytes.3 gives.counted) p.least (omega (arith, gives.counted));
+      least = omega (arith, gives.counted, p.least);
       sound = λ was. sound (p.sound was);
     }
 
-    -- a line couldn't be read: of known bytes, those after it are left
-    pub near_fault : (fault : FaultValue) → GivesFault device now fault new → fault_kept now ≡ None → IsNear device.left old new
-    near_fault fault gives going =
-        near_pass (lines_left device.left old) (lines_left device.left now) (device.left (source_of new)) (lines_given now - lines_given old) (suc (lines_given new) - lines_given now) (suc (lines_given new) - lines_given old) p.lines
-        (let same = gives.counted in let least = p.least in omega arith) (gives.near going)
+    -- a line couldn't be read: what follows it is still to come
+    pub near_fault : (fault : FaultValue) (gives : GivesFault device now fault new) → fault_kept now ≡ None → IsNear old (p.bytes.0 ++ gives.bytes.0) new
+    near_fault fault gives going = near_pass device old now new p.bytes.0 gives.bytes.0 gives.bytes.1 p.lines (gives.near going) p.least (omega (arith, gives.counted))
 
     -- the line feeds among the bytes taken all end lines that were given
     pub cut_fault : (fault : FaultValue) → GivesFault device now fault new → fault_kept now ≡ None → fault ≡ read_failed (input_of now) (suc (lines_given now)) → CutsOff device old new
@@ -159,12 +151,6 @@ module _ {S : Type 0} (device : Source S) where
         let given = cut.given in
         let front = front_of_both p.bytes.0 cut.bytes (2 ^ 63 - 1 - bytes_taken old) (2 ^ 63 - 1 - bytes_taken now) (omega arith) in
         grind (arith, (hands_both device old now new p.bytes.0 cut.bytes p.bytes.1 cut.hands), (line_feeds-append p.bytes.0 (take (2 ^ 63 - 1 - bytes_taken now) cut.bytes)))
-
-  -- of known bytes, those after the lines given are left, and so those after one more
-  pub near_line : (old new : LineReader S) → Passed old new → fault_kept new ≡ None → IsSound device old → IsNear device.left old new
-  near_line old new p going sound =
-      near_pass (lines_left device.left old) (lines_left device.left new) (device.left (source_of new)) (lines_given new - lines_given old) 1 (suc (lines_given new) - lines_given old) p.lines
-      (let least = p.least in omega arith) (near_fewer (lines_left device.left new) (device.left (source_of new)) (sound_near device new (p.sound sound) going))
 
 -- Lemmas on a table of chromosomes and on reading one.
 
@@ -237,15 +223,13 @@ name_at chromosomes rank = grind (arith, slice_get-map)
 pub length_at : (chromosomes : List (Vec ℕ Global × ℕ)) (rank : ℕ) → option_map (λ entry. entry.length) (slice_get (map entry_seen chromosomes) rank) ≡ slice_get (map (λ chromosome. chromosome.1) chromosomes) rank
 length_at chromosomes rank = grind (arith, slice_get-map)
 
--- the lines before those left were given, and have these entries
-abbrev Continues : Input → Option (List TextLine) → ℕ → List Entry → Option (List TextLine) → ℕ → Type 0
-Continues input None from front new to = Unit {0}
-Continues input (Some old) from front None to = ⊥
-Continues input (Some old) from front (Some new) to = (given : List TextLine) × (old ≡ given ++ new) × (from + length given ≡ to) × (genome_of input given ≡ Ok front)
+-- the lines before those that come now were given, and have these entries
+abbrev Continues : Input → List TextLine → ℕ → List Entry → List TextLine → ℕ → Type 0
+Continues input old from front new to = (given : List TextLine) × (old ≡ given ++ new) × (from + length given ≡ to) × (genome_of input given ≡ Ok front)
 
-continues_start : (input : Input) (lines : Option (List TextLine)) (n : ℕ) → Continues input lines n [] lines n
+continues_start : (input : Input) (lines : List TextLine) (n : ℕ) → Continues input lines n [] lines n
 unfolding genome_from
-continues_start input lines n = grind arith
+continues_start input lines n = ([], refl, omega arith, refl)
 
 says_more : (input : Input) (names : List (List ℕ)) (line : TextLine) (entry : Option Entry) → new_entry names (entry_of line.text) ≡ Ok entry → genome_from input names (line ∷ []) ≡ Ok (option_to_list entry)
 unfolding genome_from
@@ -255,48 +239,46 @@ says_wrong : (input : Input) (names : List (List ℕ)) (line : TextLine) (lines 
 unfolding genome_from
 says_wrong input names line lines kind e = rw e refl
 
-continues_line : (input : Input) (old now next : Option (List TextLine)) (from : ℕ) {to further : ℕ} (front : List Entry) (line : TextLine) {entry : Option Entry} → Continues input old from front now to → GivesFirst now line next → further ≡ suc to
+continues_line : (input : Input) (old now next : List TextLine) (from : ℕ) {to further : ℕ} (front : List Entry) (line : TextLine) {entry : Option Entry} → Continues input old from front now to → now ≡ line ∷ next → further ≡ suc to
     → new_entry (genome_names front) (entry_of line.text) ≡ Ok entry → Continues input old from (front ++ option_to_list entry) next further
-continues_line input None now next from front line c g n e = tt
-continues_line input (Some old) None next from front line c g n e = absurd c
-continues_line input (Some old) (Some now) None from front line c g n e = absurd g
-continues_line input (Some old) (Some now) (Some next) from front line {entry} c g n e = (
+continues_line input old now next from front line {entry} c g n e = (
   c.0 ++ line ∷ [],
   c.1 ∙ ap (λ lines. c.0 ++ lines) g ∙ sym (append_assoc c.0 (line ∷ []) next),
   omega (arith, c.2, n, length-append c.0 (line ∷ [])),
   says_then input [] c.0 (line ∷ []) front c.3 ∙ before_ok front (option_to_list entry) (genome_from input (genome_names front) (line ∷ [])) (says_more input (genome_names front) line entry e),
 )
 
-continues_end : (input : Input) (old now : Option (List TextLine)) (from to : ℕ) (front : List Entry) → Continues input old from front now to → IfSome now (λ lines. lines ≡ []) → IfSome old (λ lines. genome_of input lines ≡ Ok front)
-continues_end input old now from to front c e = search rules
+continues_end : (input : Input) (old now : List TextLine) (from to : ℕ) (front : List Entry) → Continues input old from front now to → now ≡ [] → genome_of input old ≡ Ok front
+continues_end input old now from to front c e = ap (genome_of input) (c.1 ∙ ap (λ lines. c.0 ++ lines) e ∙ append-nil c.0) ∙ c.3
 
 -- a line that is at fault after those given
 fault_behind : (input : Input) (given : List TextLine) (front : List Entry) (line : TextLine) (lines : List TextLine) (kind : Kind) → genome_of input given ≡ Ok front
     → new_entry (genome_names front) (entry_of line.text) ≡ Err kind → genome_of input (given ++ line ∷ lines) ≡ Err (fault_at_line input line.number kind)
 fault_behind input given front line lines kind good e = grind (arith, (says_then input [] given (line ∷ lines) front good), before_err, (says_wrong input (genome_names front) line lines kind e))
 
-continues_fault : (input : Input) (old now next : Option (List TextLine)) (from to : ℕ) (front : List Entry) (line : TextLine) (kind : Kind) → Continues input old from front now to → GivesFirst now line next
-    → new_entry (genome_names front) (entry_of line.text) ≡ Err kind → IfSome old (λ lines. genome_of input lines ≡ Err (fault_at_line input line.number kind))
-continues_fault input old now next from to front line kind c g e = grind (arith, fault_behind)
+continues_fault : (input : Input) (old now next : List TextLine) (from to : ℕ) (front : List Entry) (line : TextLine) (kind : Kind) → Continues input old from front now to → now ≡ line ∷ next
+    → new_entry (genome_names front) (entry_of line.text) ≡ Err kind → genome_of input old ≡ Err (fault_at_line input line.number kind)
+continues_fault input old now next from to front line kind c g e = ap (genome_of input) (c.1 ∙ ap (λ lines. c.0 ++ lines) g) ∙ fault_behind input c.0 front line next kind c.3 e
 
 first_lines : (old given new : List TextLine) (from to : ℕ) → old ≡ given ++ new → from + length given ≡ to → take (to - from) old ≡ given
 first_lines old given new from to e n = grind (arith, common_steps)
 
 -- if one of the first lines is at fault, its fault is the one reported
-abbrev IsToldFirst : Input → Option (List TextLine) → ℕ → FaultValue → Type 0
-IsToldFirst input lines count fault = IfSome lines (λ all. (other : FaultValue) → genome_of input (take count all) ≡ Err other → fault ≡ other)
+abbrev IsToldFirst : Input → List TextLine → ℕ → FaultValue → Type 0
+IsToldFirst input lines count fault = (other : FaultValue) → genome_of input (take count lines) ≡ Err other → fault ≡ other
 
--- no line given is at fault
-none_wrong : (input : Input) (old now : Option (List TextLine)) (from to : ℕ) (front : List Entry) (fault : FaultValue) → Continues input old from front now to → IsToldFirst input old (to - from) fault
-none_wrong input old now from to front fault c = grind (arith, first_lines)
+-- the lines given made entries
+given_entries : (input : Input) (old now : List TextLine) (from to : ℕ) (front : List Entry) → Continues input old from front now to → genome_of input (take (to - from) old) ≡ Ok front
+given_entries input old now from to front c = ap (λ lines. genome_of input lines) (first_lines old c.0 now from to c.1 c.2) ∙ c.3
+
+-- so none of them is at fault
+none_wrong : (input : Input) (old now : List TextLine) (from to : ℕ) (front : List Entry) (fault : FaultValue) → Continues input old from front now to → IsToldFirst input old (to - from) fault
+none_wrong input old now from to front fault c other f = absurd (let apart : ◌≡◌ {A = Result (List Entry) FaultValue} (Ok front) (Err other) = sym (given_entries input old now from to front c) ∙ f in cc)
 
 -- the last line given is
-last_wrong : (input : Input) (old now next : Option (List TextLine)) (from : ℕ) {to further : ℕ} (front : List Entry) (line : TextLine) {kind : Kind} → Continues input old from front now to → GivesFirst now line next → further ≡ suc to
+last_wrong : (input : Input) (old now next : List TextLine) (from : ℕ) {to further : ℕ} (front : List Entry) (line : TextLine) {kind : Kind} → Continues input old from front now to → now ≡ line ∷ next → further ≡ suc to
     → new_entry (genome_names front) (entry_of line.text) ≡ Err kind → IsToldFirst input old (further - from) (fault_at_line input line.number kind)
-last_wrong input None now next from front line c g n e = tt
-last_wrong input (Some old) None next from front line c g n e = absurd c
-last_wrong input (Some old) (Some now) None from front line c g n e = absurd g
-last_wrong input (Some old) (Some now) (Some next) from {further} front line {kind} c g n e = λ other f.
+last_wrong input old now next from {to} {further} front line {kind} c g n e = λ other f.
     let whole : old ≡ (c.0 ++ line ∷ []) ++ next = c.1 ∙ ap (λ lines. c.0 ++ lines) g ∙ sym (append_assoc c.0 (line ∷ []) next) in
     let count : from + length (c.0 ++ line ∷ []) ≡ further = omega (arith, c.2, n, length-append c.0 (line ∷ [])) in
     let wrong : genome_of input (take (further - from) old) ≡ Err (fault_at_line input line.number kind) =
@@ -306,30 +288,24 @@ last_wrong input (Some old) (Some now) (Some next) from {further} front line {ki
 distinct_more : (front : List Entry) (said : Result (Option Entry) Kind) (entry : Option Entry) → AreDistinct (genome_names front) → new_entry (genome_names front) said ≡ Ok entry → AreDistinct (genome_names (front ++ option_to_list entry))
 distinct_more front said entry d e = grind (arith, append-nil, map-append, distinct_push)
 
--- the lines given made entries
-given_entries : (input : Input) (old now : Option (List TextLine)) (from to : ℕ) (front : List Entry) → Continues input old from front now to → IfSome old (λ lines. (entries : List Entry) × (genome_of input (take (to - from) lines) ≡ Ok entries))
-given_entries input None now from to front c = tt
-given_entries input (Some old) None from to front c = absurd c
-given_entries input (Some old) (Some now) from to front c = (front, ap (λ lines. genome_of input lines) (first_lines old c.0 now from to c.1 c.2) ∙ c.3)
-
 -- how far the reading of a genome file is: nothing was read by a reader that had a fault
 pub record Going {S : Type 0} (device : Source S) (old now : LineReader S) (genome : Genome) : Type 0 where
-  pub continues : Continues (input_of old) (lines_left device.left old) (lines_given old) (entries genome) (lines_left device.left now) (lines_given now)
+  pub passed : Passed device old now
+  pub continues : (rest : List ℕ) → MayStillCome now rest → Continues (input_of old) (lines_coming (passed.bytes.0 ++ rest) old) (lines_given old) (entries genome) (lines_coming rest now) (lines_given now)
   pub distinct : AreDistinct (names_of genome)
   pub stays : (before : FaultValue) → fault_kept old ≡ Some before → now ≡ old
   pub going : fault_kept old ≡ None → fault_kept now ≡ None
   pub served : device.has_failed (source_of now) ≡ device.has_failed (source_of old)
-  pub passed : Passed device old now
 
 module _ {S : Type 0} (device : Source S) (old : LineReader S) where
   pub going_start : (genome : Genome) → entries genome ≡ [] → Going device old old genome
   going_start genome none = record {
-    continues = rw none (continues_start (input_of old) (lines_left device.left old) (lines_given old));
+    passed = record { bytes = ([], hands_none device old); lines = none_pass old old [] (λ rest. refl) refl; least = omega arith; sound = λ h. h };
+    continues = λ rest follows. rw none (continues_start (input_of old) (lines_coming rest old) (lines_given old));
     distinct = grind arith;
     stays = λ before e. refl;
     going = λ e. e;
     served = refl;
-    passed = record { lines = grind arith; least = omega arith; bytes = ([], hands_none device old); sound = λ h. h };
   }
 
   -- a reader that returns anything but a fault had none from the start
@@ -339,32 +315,53 @@ module _ {S : Type 0} (device : Source S) (old : LineReader S) where
   distinct_line : (text : List ℕ) (genome grown : Genome) → AreDistinct (names_of genome) → LineAdded text genome grown → AreDistinct (names_of grown)
   distinct_line text genome grown d added = rw added.added (distinct_more (entries genome) (entry_of text) added.entry d added.says)
 
-  both : (now next : LineReader S) → (bytes : List ℕ) × Hands device old bytes now → (bytes : List ℕ) × Hands device now bytes next → (bytes : List ℕ) × Hands device old bytes next
-  both now next h more = (h.0 ++ more.0, hands_both device old now next h.0 more.0 h.1 more.1)
-
   same_input : (now : LineReader S) (genome : Genome) → Going device old now genome → input_of now ≡ input_of old
   same_input now genome g = g.passed.bytes.1.same_input
 
+  module _ (now next : LineReader S) (genome : Genome) (g : Going device old now genome) {bytes : List ℕ} (hands : Hands device now bytes next) where
+    abbrev all : List ℕ
+    all = g.passed.bytes.0 ++ bytes
+
+    abbrev together : (bytes : List ℕ) × Hands device old bytes next
+    together = (all, hands_both device old now next g.passed.bytes.0 bytes g.passed.bytes.1 hands)
+
+    -- the lines that come, by those that came
+    continues_then : (rest : List ℕ) → MayStillCome next rest → Continues (input_of old) (lines_coming (all ++ rest) old) (lines_given old) (entries genome) (lines_coming (bytes ++ rest) now) (lines_given now)
+    continues_then rest follows =
+        rw (append_assoc g.passed.bytes.0 bytes rest) (g.continues (bytes ++ rest) (comes_before device hands rest follows))
+
   pub going_line : (now next : LineReader S) (line : TextLine) (genome grown : Genome) → Going device old now genome → GivesLine device now line next → (IsSound device now → IsSound device next) → LineAdded line.text genome grown → Going device old next grown
   going_line now next line genome grown g gives sound added = record {
-    continues = rw added.added (continues_line (input_of old) (lines_left device.left old) (lines_left device.left now) (lines_left device.left next) (lines_given old) (entries genome) line g.continues (given_left device now next line gives) gives.counted added.says);
+    passed = passed_line device old now next g.passed line gives sound;
+    continues = λ rest follows. rw added.added (continues_line (input_of old) _ _ _ (lines_given old) (entries genome) line (continues_then now next genome g gives.bytes.1 rest follows) (gives.bytes.3 rest follows) gives.counted added.says);
     distinct = distinct_line line.text genome grown g.distinct added;
     stays = λ before e. let none = had_none now genome g gives.was_going.0 in cc;
     going = λ e. gives.goes;
     served = gives.served ∙ g.served;
-    passed = passed_line device old now next g.passed line gives sound;
   }
 
   pub going_end : (now new : LineReader S) (genome : Genome) → Going device old now genome → GivesEnd device now new → ReadsAll device old new genome
-  going_end now new genome g gives = grind (arith, continues_end, (both now new g.passed.bytes (gives.bytes.0, gives.bytes.1)), (none_left device now new gives))
+  going_end now new genome g gives =
+      let still : MayStillCome now gives.bytes.0 = λ told. sym (append-nil gives.bytes.0) ∙ comes_before device gives.bytes.1 [] (λ e. refl) told in
+      record {
+        bytes = together now new genome g gives.bytes.1;
+        was_going = had_none now genome g gives.was_going;
+        is = continues_end (input_of old) _ _ (lines_given old) (lines_given now) (entries genome) (g.continues gives.bytes.0 still) (none_came device now new gives);
+        distinct = g.distinct;
+        ended = gives.ends;
+        told = gives.told;
+        going = gives.goes;
+        served = gives.served ∙ g.served;
+      }
 
-  pub going_refused : (now next : LineReader S) (line : TextLine) (genome : Genome) (place : Place) (fault : FaultValue) → Going device old now genome → GivesLine device now line next
-      → place ≡ record { input = input_of old; line = line.number } → IsWrong place (new_entry (names_of genome) (entry_of line.text)) fault → EntryIsWrong device old next fault
+  pub going_refused : (now next : LineReader S) (line : TextLine) (genome : Genome) (place : Place) (fault : FaultValue) (g : Going device old now genome) (gives : GivesLine device now line next)
+      → place ≡ record { input = input_of old; line = line.number } → IsWrong place (new_entry (names_of genome) (entry_of line.text)) fault → EntryIsWrong device old (g.passed.bytes.0 ++ gives.bytes.0) next fault
   going_refused now next line genome place fault g gives at refused =
       let is : fault ≡ fault_at_line (input_of old) line.number refused.kind = refused.is ∙ ap (λ (p : Place). fault_at_line p.input p.line refused.kind) at in
       let counted : line.number ≡ lines_given next = gives.number ∙ sym gives.counted in
       record {
-        is = rw is (continues_fault (input_of old) (lines_left device.left old) (lines_left device.left now) (lines_left device.left next) (lines_given old) (lines_given now) (entries genome) line refused.kind g.continues (given_left device now next line gives) refused.says);
+        is = λ rest follows.
+            continues_fault (input_of old) _ _ _ (lines_given old) (lines_given now) (entries genome) line refused.kind (continues_then now next genome g gives.bytes.1 rest follows) (gives.bytes.3 rest follows) refused.says ∙ ap Err (sym is);
         kind = refused.kind;
         names = names_of genome;
         text = line.text;
@@ -375,56 +372,65 @@ module _ {S : Type 0} (device : Source S) (old : LineReader S) where
         served = gives.served ∙ g.served;
       }
 
-  stops_by : (now new : LineReader S) (genome : Genome) (fault : FaultValue) → Going device old now genome → GivesFault device now fault new → fault_kept now ≡ None → FailsToRead device now fault new ⊎ (fault ≡ no_memory) → StopCause device old new fault
-  stops_by now new genome fault g gives going (inl fails) = inr (inl (record {
-    fails = record {
-      is = fails.is ∙ ap (λ i. read_failed i (suc (lines_given now))) (same_input now genome g) ∙ ap (λ n. read_failed (input_of old) (suc n)) (sym gives.counted);
-      kept = gives.kept;
-      cause = fails.cause;
-      before_end = not_told (end_told old) (end_told now) g.passed.bytes.1.told_stays (gives.before_end going);
-      cut = λ kept. cut_fault device old now new g.passed fault gives going fails.is;
-    };
-    passed = rw gives.counted (given_entries (input_of old) (lines_left device.left old) (lines_left device.left now) (lines_given old) (lines_given now) (entries genome) g.continues);
-  }))
-  stops_by now new genome fault g gives going (inr is) = inr (inr (record { is = is; served = gives.served is ∙ g.served; no_read = memory_failed (fault_kept new) (gives.kept ∙ ap Some is) }))
+  module _ (now new : LineReader S) (genome : Genome) (fault : FaultValue) (g : Going device old now genome) (gives : GivesFault device now fault new) where
+    abbrev handed : List ℕ
+    handed = g.passed.bytes.0 ++ gives.bytes.0
 
-  pub going_fault : (now new : LineReader S) (genome : Genome) (fault : FaultValue) → Going device old now genome → GivesFault device now fault new → ReadingStops device old new fault
-  going_fault now new genome fault g gives = record {
-    again = λ before e.
-        let same = g.stays before e in
-        let told = gives.again before (ap fault_kept same ∙ e) in
-        (told.0, told.1 ∙ same);
-    first = λ none. stops_by now new genome fault g gives (g.going none) (gives.first (g.going none));
-    checked = rw gives.counted (none_wrong (input_of old) (lines_left device.left old) (lines_left device.left now) (lines_given old) (lines_given now) (entries genome) fault g.continues);
-    bytes = both now new g.passed.bytes gives.bytes;
-    near = λ none sound. near_fault device old now new g.passed fault gives (g.going none);
-  }
+    stops_by : fault_kept now ≡ None → FailsToRead device now fault new ⊎ (fault ≡ no_memory) → StopCause device old handed new fault
+    stops_by going (inl fails) = inr (inl (record {
+      fails = record {
+        is = fails.is ∙ ap (λ i. read_failed i (suc (lines_given now))) (same_input now genome g) ∙ ap (λ n. read_failed (input_of old) (suc n)) (sym gives.counted);
+        kept = gives.kept;
+        cause = fails.cause;
+        before_end = not_told (end_told old) (end_told now) g.passed.bytes.1.told_stays (gives.before_end going);
+        cut = λ kept. cut_fault device old now new g.passed fault gives going fails.is;
+      };
+      passed = λ rest follows. (entries genome, rw gives.counted (given_entries (input_of old) _ _ (lines_given old) (lines_given now) (entries genome) (continues_then now new genome g gives.bytes.1 rest follows)));
+    }))
+    stops_by going (inr is) = inr (inr (record { is = is; served = gives.served is ∙ g.served; no_read = memory_failed (fault_kept new) (gives.kept ∙ ap Some is) }))
 
-  -- a line was refused, or had no room
-  going_wrong : (now next : LineReader S) (line : TextLine) (genome : Genome) (place : Place) (fault : FaultValue) → Going device old now genome → GivesLine device now line next → (IsSound device now → IsSound device next)
-      → place ≡ record { input = input_of old; line = line.number } → IsWrong place (new_entry (names_of genome) (entry_of line.text)) fault → ReadingStops device old next fault
-  going_wrong now next line genome place fault g gives sound at refused =
-      let none = had_none now genome g gives.was_going.0 in
-      let is : fault ≡ fault_at_line (input_of old) line.number refused.kind = refused.is ∙ ap (λ (p : Place). fault_at_line p.input p.line refused.kind) at in
-      record {
-        again = λ before e. cc;
-        first = λ going. inl (going_refused now next line genome place fault g gives at refused);
-        checked = rw is (last_wrong (input_of old) (lines_left device.left old) (lines_left device.left now) (lines_left device.left next) (lines_given old) (entries genome) line g.continues (given_left device now next line gives) gives.counted refused.says);
-        bytes = both now next g.passed.bytes (gives.bytes.0, gives.bytes.1);
-        near = λ none was. near_line device old next (passed_line device old now next g.passed line gives sound) gives.goes was;
-      }
+    pub going_fault : ReadingStops device old new fault
+    going_fault = record {
+      bytes = together now new genome g gives.bytes.1;
+      again = λ before e.
+          let same = g.stays before e in
+          let told = gives.again before (ap fault_kept same ∙ e) in
+          (told.0, told.1 ∙ same);
+      first = λ none. stops_by (g.going none) (gives.first (g.going none));
+      checked = λ rest follows. rw gives.counted (none_wrong (input_of old) _ _ (lines_given old) (lines_given now) (entries genome) fault (continues_then now new genome g gives.bytes.1 rest follows));
+      near = λ none. near_fault device old now new g.passed fault gives (g.going none);
+    }
 
-  going_unkept : (now next : LineReader S) (line : TextLine) (genome : Genome) (place : Place) (fault : FaultValue) → Going device old now genome → GivesLine device now line next → (IsSound device now → IsSound device next) → IsUnkept place (new_entry (names_of genome) (entry_of line.text)) fault → ReadingStops device old next fault
-  going_unkept now next line genome place fault g gives sound unkept =
-      let none = had_none now genome g gives.was_going.0 in
-      let more = continues_line (input_of old) (lines_left device.left old) (lines_left device.left now) (lines_left device.left next) (lines_given old) (entries genome) line g.continues (given_left device now next line gives) gives.counted unkept.says in
-      record {
-        again = λ before e. cc;
-        first = λ going. inr (inr (record { is = unkept.is; served = gives.served ∙ g.served; no_read = none_failed (fault_kept next) gives.goes }));
-        checked = none_wrong (input_of old) (lines_left device.left old) (lines_left device.left next) (lines_given old) (lines_given next) (entries genome ++ unkept.item ∷ []) fault more;
-        bytes = both now next g.passed.bytes (gives.bytes.0, gives.bytes.1);
-        near = λ none was. near_line device old next (passed_line device old now next g.passed line gives sound) gives.goes was;
-      }
+  module _ (now next : LineReader S) (line : TextLine) (genome : Genome) (place : Place) (fault : FaultValue) (g : Going device old now genome) (gives : GivesLine device now line next) (sound : IsSound device now → IsSound device next) where
+    abbrev passes : Passed device old next
+    passes = passed_line device old now next g.passed line gives sound
+
+    -- a line was refused
+    going_wrong : place ≡ record { input = input_of old; line = line.number } → IsWrong place (new_entry (names_of genome) (entry_of line.text)) fault → ReadingStops device old next fault
+    going_wrong at refused =
+        let none = had_none now genome g gives.was_going.0 in
+        let is : fault ≡ fault_at_line (input_of old) line.number refused.kind = refused.is ∙ ap (λ (p : Place). fault_at_line p.input p.line refused.kind) at in
+        record {
+          bytes = passes.bytes;
+          again = λ before e. cc;
+          first = λ going. inl (going_refused now next line genome place fault g gives at refused);
+          checked = λ rest follows.
+              rw is (last_wrong (input_of old) _ _ _ (lines_given old) (entries genome) line (continues_then now next genome g gives.bytes.1 rest follows) (gives.bytes.3 rest follows) gives.counted refused.says);
+          near = λ none. near_after old next passes.bytes.0 passes.lines passes.least;
+        }
+
+    -- or had no room
+    going_unkept : IsUnkept place (new_entry (names_of genome) (entry_of line.text)) fault → ReadingStops device old next fault
+    going_unkept unkept =
+        let none = had_none now genome g gives.was_going.0 in
+        record {
+          bytes = passes.bytes;
+          again = λ before e. cc;
+          first = λ going. inr (inr (record { is = unkept.is; served = gives.served ∙ g.served; no_read = none_failed (fault_kept next) gives.goes }));
+          checked = λ rest follows. none_wrong (input_of old) _ _ (lines_given old) (lines_given next) (entries genome ++ unkept.item ∷ []) fault
+              (continues_line (input_of old) _ _ _ (lines_given old) (entries genome) line (continues_then now next genome g gives.bytes.1 rest follows) (gives.bytes.3 rest follows) gives.counted unkept.says);
+          near = λ none. near_after old next passes.bytes.0 passes.lines passes.least;
+        }
 
   -- a line could not be added
   pub going_err : (now next : LineReader S) (line : TextLine) (genome : Genome) (place : Place) (fault : FaultValue) → Going device old now genome → GivesLine device now line next → (IsSound device now → IsSound device next)

@@ -229,3 +229,16 @@ module _ (entries : List Entry) (rank limit : ℕ) where
 
     pub next_longer : size ≤ limit → list_any (λ entry. ltb limit entry.length) (drop rank entries) ≡ list_any (λ entry. ltb limit entry.length) (drop (rank + 1) entries)
     next_longer enough = any_by entries rank limit size (slice_get entries rank) refl is ∙ ap (λ b. b || list_any (λ entry. ltb limit entry.length) (drop (rank + 1) entries)) (le-ltb limit size enough)
+
+-- Names of a genome file.
+
+module _ (names : List (List ℕ)) (rank limit : ℕ) where
+  pub none_longer_name : length names ≤ rank → list_any (λ name. ltb limit (length name)) (drop rank names) ≡ false
+  none_longer_name past = rw (drop_of_length-le names past) refl
+
+  module _ (name : List ℕ) (is : slice_get names rank ≡ Some name) where
+    pub one_longer_name : limit < length name → list_any (λ name. ltb limit (length name)) (drop rank names) ≡ true
+    one_longer_name less = rw (at_drop names rank name is, lt-ltb limit (length name) less) refl
+
+    pub next_longer_name : length name ≤ limit → list_any (λ name. ltb limit (length name)) (drop rank names) ≡ list_any (λ name. ltb limit (length name)) (drop (rank + 1) names)
+    next_longer_name enough = rw (at_drop names rank name is, le-ltb limit (length name) enough) refl

@@ -45,10 +45,9 @@ begun_whole beginning (x ∷ l) = grind arith
 pub begun_push : (beginning l : List ℕ) (b : ℕ) → begun_as beginning (l ++ b ∷ []) ≡ (if grows beginning l b then suc (length l) else 0)
 begun_push beginning l b = grind (arith, (length-append l (b ∷ [])))
 
-pub gzip_push : (l : List ℕ) (b : ℕ) → (grows (31 ∷ 139 ∷ []) l b && (suc (length l) == 2)) ≡ ((length l == 1) && ((get_or l 0 0 == 31) && (b == 139)))
+pub gzip_push : (l : List ℕ) (b : ℕ) → (grows (31 ∷ []) l b && (suc (length l) == 1)) ≡ ((length l == 0) && (b == 31))
 gzip_push [] b = grind arith
-gzip_push (x ∷ []) b = grind arith
-gzip_push (x ∷ y ∷ l) b = grind arith
+gzip_push (x ∷ l) b = grind arith
 
 pub mark_push : (l : List ℕ) (b : ℕ) → (grows (239 ∷ 187 ∷ 191 ∷ []) l b && (suc (length l) == 3)) ≡ ((length l == 2) && ((get_or l 0 0 == 239) && ((last_after 10 l == 187) && (b == 191))))
 mark_push [] b = grind arith

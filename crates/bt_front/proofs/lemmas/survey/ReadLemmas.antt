@@ -1,7 +1,7 @@
 -- Lemmas on surveying a source.
 use Rattle.bt_lines.proofs.Std.{arith, ◌≡◌, ◌∙◌, ◌⊎◌, ℕ, ◌++◌, [], Consumes, IfSome, IsAtEnd, IsSome, List, None, Option, Some, ap, append-nil, append_assoc, false, false≢true, inl, inr, is_some, list_all, option_map, refl, subst, sym, true}
 use Rattle.bt_lines.specs.calls.Device.{FailsAfter, ReadsOn, begun, gave}
-use Rattle.bt_lines.specs.calls.Reader.{AreRead, Hands, IsReadFailed, fault_kept as line_fault, input_of, lines_left, source_of}
+use Rattle.bt_lines.specs.calls.Reader.{AreRead, Hands, IsReadFailed, fault_kept as line_fault, held, input_of, lines_coming, lines_given, source_of}
 use Rattle.bt_lines.specs.declared.fault.Input.{Input}
 use Rattle.bt_lines.specs.declared.fault.Input.TheVariants.{First}
 use Rattle.bt_lines.specs.declared.reader.line_reader.LineReader.{LineReader}
@@ -10,7 +10,7 @@ use Rattle.bt_lines.specs.declared.device.Source.{Ghosts as Source}
 use Rattle.bt_lines.specs.model.Fault.{FaultValue}
 use Rattle.bt_lines.proofs.lemmas.reader.block.ReadsLemmas.{no_fault}
 use Rattle.bt_bed.specs.calls.Blocks.{below, view_of}
-use Rattle.bt_bed.specs.calls.Reading.{good_coming}
+use Rattle.bt_bed.specs.calls.Reading.{coming}
 use Rattle.bt_bed.specs.declared.read.blocks.Blocks.{Blocks}
 use Rattle.bt_bed.specs.model.Feature.{Feature}
 use Rattle.bt_bed.specs.model.Good.{Good, block_format, good, items_in}
@@ -89,24 +89,28 @@ in_text text (Odd odd) is = inr is
 in_text text (Refused fault) is = is
 in_text text (ComesBack line) is = is
 
+-- the lines of a text are all that come of it to a reader that has given none
+all_lines : {S : Type 0} (reader : LineReader S) → lines_given reader ≡ 0 → held reader ≡ [] → (text : List ℕ) → lines_coming text reader ≡ text_lines text
+unfolding lines_coming
+all_lines reader given none text = rw (given, none) refl
+
 module _ {S : Type 0} (device : Source S) where
   -- a reader of the records of a source that is watched
   pub record Watching (source : S) (blocks : Blocks (Watched S)) : Type 0 where
     pub source_is : (source_of (below blocks)).source ≡ source
     pub shows : Shows [] (source_of (below blocks))
-    pub good : (text : List ℕ) → device.left source ≡ Some text → good_coming (watched_source device).left (view_of blocks) ≡ Some (read_of text)
+    pub good : (text : List ℕ) → coming text (view_of blocks) ≡ read_of text
 
   -- one that was just made is
   pub watching : (source : S) (watched : Watched S) (reader : LineReader (Watched S)) (blocks : Blocks (Watched S)) → watched.source ≡ source → Shows [] watched
-      → source_of reader ≡ watched → input_of reader ≡ First → lines_left (watched_source device).left reader ≡ option_map text_lines (device.left watched.source)
-      → below blocks ≡ reader → good_coming (watched_source device).left (view_of blocks) ≡ option_map (good block_format (input_of reader)) (lines_left (watched_source device).left reader)
+      → source_of reader ≡ watched → input_of reader ≡ First → lines_given reader ≡ 0 → held reader ≡ []
+      → below blocks ≡ reader → ((text : List ℕ) → coming text (view_of blocks) ≡ good block_format (input_of reader) (lines_coming text reader))
       → Watching source blocks
-  watching source watched reader blocks here shows above input lines holds coming =
+  watching source watched reader blocks here shows above input given none holds comes =
       let at : source_of (below blocks) ≡ watched = ap source_of holds ∙ above in record {
         source_is = ap (λ (w : Watched S). w.source) at ∙ here;
         shows = subst (λ (w : Watched S). Shows [] w) (sym at) shows;
-        good = λ text known. coming ∙ ap (λ (i : Input). option_map (good block_format i) (lines_left (watched_source device).left reader)) input
-            ∙ ap (option_map (good block_format First)) (lines ∙ ap (λ (o : Option (List ℕ)). option_map text_lines o) (ap device.left here ∙ known));
+        good = λ text. comes text ∙ ap (λ (i : Input). good block_format i (lines_coming text reader)) input ∙ ap (good block_format First) (all_lines reader given none text);
       }
 
   module _ (source : S) (old new : Blocks (Watched S)) (watched : Watched S) (after : S) (so : Watching source old) (is : watched ≡ source_of (below new)) (ends : after ≡ watched.source) where
@@ -127,9 +131,6 @@ module _ {S : Type 0} (device : Source S) where
       known_from text known =
           subst (λ (o : Option (List ℕ)). Consumes o (device.left (source_of (below new)).source) bytes) (ap device.left so.source_is ∙ known) hands.left_over
 
-      told_of : (P : Good Feature → Type 0) → IfSome (good_coming (watched_source device).left (view_of old)) P → (text : List ℕ) → device.left source ≡ Some text → P (read_of text)
-      told_of P told text known = subst (λ (o : Option (Good Feature)). IfSome o P) (so.good text known) told
-
     -- the records were seen to the end, whose last line isn't odd
     pub surveyed : (survey : Survey) → HasSeenAll (watched_source device) old new survey → ((bytes : List ℕ) → Shows bytes watched → EndsBy bytes None) → Surveys device source after survey
     surveyed survey sees plain =
@@ -137,20 +138,16 @@ module _ {S : Type 0} (device : Source S) where
         let end = sees.kept.end sees.told in
         let lines : list_all is_plain (raw_lines bytes) ≡ true = plain bytes (shown bytes sees.bytes.1) in
         let whole : (text : List ℕ) → device.left source ≡ Some text → text ≡ bytes = λ text known. all_known text _ bytes (known_from bytes sees.bytes.1 text known) end.1 in
-        let tells = λ (text : List ℕ) (known : device.left source ≡ Some text). told_of bytes sees.bytes.1 (λ good. (good.fault ≡ None) × AreSeen (items_in good) survey) sees.all text known in
         record {
           bytes = bytes;
           served = all_served (reads_either (watched_source device) (below old) sees.bytes.0 (below new) sees.bytes.1.reads);
           told = rw same end.0;
-          plain = lines;
-          known = λ text known. (
-            whole text known,
-            record {
-              plain = subst (λ (l : List ℕ). list_all is_plain (raw_lines l) ≡ true) (sym (whole text known)) lines;
-              faultless = (tells text known).0;
-              records = (tells text known).1;
-            },
-          );
+          is = record {
+            plain = lines;
+            faultless = subst (λ (g : Good Feature). g.fault ≡ None) (so.good bytes) sees.faultless;
+            records = subst (λ (g : Good Feature). AreSeen (items_in g) survey) (so.good bytes) sees.records;
+          };
+          known = whole;
         }
       where
         all_served : ReadsOn (IsWatchedRead device.is_read) (source_of (below old)) sees.bytes.0 (source_of (below new))
@@ -169,8 +166,8 @@ module _ {S : Type 0} (device : Source S) where
         let line : IsOddLine bytes odd = finds bytes (shown bytes sees.bytes.1) in record {
           bytes = bytes;
           handed = handed bytes sees.bytes.1;
-          known = λ text known. (let whole : text ≡ bytes = all_known text _ bytes (known_from bytes sees.bytes.1 text known) end.1 in
-              (([], whole ∙ sym (append-nil bytes)), inl (subst (λ (l : List ℕ). IsOddLine l odd) (sym whole) line)));
+          is = λ rest follows. inl (subst (λ (l : List ℕ). IsOddLine l odd) (sym (ap (λ l. bytes ++ l) (follows (rw same end.0)) ∙ append-nil bytes)) line);
+          known = λ text known. (let whole : text ≡ bytes = all_known text _ bytes (known_from bytes sees.bytes.1 text known) end.1 in ([], whole ∙ sym (append-nil bytes)));
         }
 
     -- an odd line passed
@@ -180,8 +177,8 @@ module _ {S : Type 0} (device : Source S) where
         let begins : BeginsOdd bytes odd = subst (λ (o : Option OddLine). ShowsBy bytes watched.watch watched.feeds o) found (shown bytes stops.bytes.1).by in record {
           bytes = bytes;
           handed = handed bytes stops.bytes.1;
-          known = λ text known. (let rest = rest_known text _ bytes (known_from bytes stops.bytes.1 text known) in
-              (rest, inl (subst (λ (l : List ℕ). IsOddLine l odd) (sym rest.1) (begins.first rest.0))));
+          is = λ rest follows. inl (begins.first rest);
+          known = λ text known. rest_known text _ bytes (known_from bytes stops.bytes.1 text known);
         }
 
     -- or the records leave the text to bedtools
@@ -190,8 +187,7 @@ module _ {S : Type 0} (device : Source S) where
         let bytes = stops.bytes.0 in record {
           bytes = bytes;
           handed = handed bytes stops.bytes.1;
-          known = λ text known. (
-            rest_known text _ bytes (known_from bytes stops.bytes.1 text known),
-            in_text text trouble (told_of bytes stops.bytes.1 (λ good. IsTroubleIn good trouble) stops.trouble_is text known),
-          );
+          is = λ rest follows. in_text (bytes ++ rest) trouble
+              (subst (λ (g : Good Feature). IsTroubleIn g trouble) (so.good (bytes ++ rest)) (stops.trouble_is rest (λ told. follows (rw same (stops.kept.end told).0))));
+          known = λ text known. rest_known text _ bytes (known_from bytes stops.bytes.1 text known);
         }

@@ -78,7 +78,7 @@ feed_same block i feeds new within same more other =
 -- Quiet bytes.
 
 -- the line of some quiet bytes isn't too long
-pub quiet_short : (w : ByteWatch) (block : List ℕ) → 0 < length block → AreQuiet w block → w.line ≤ 1023
+pub quiet_short : (w : ByteWatch) (block : List ℕ) → 0 < length block → AreQuiet w block → w.line ≤ 1015
 quiet_short w [] some q = absurd (omega arith)
 quiet_short w (b ∷ bs) some q = (quiet_head w b bs q).short
 
@@ -90,10 +90,10 @@ pub record QuietRun (w : ByteWatch) (s rest : List ℕ) : Type 0 where
 none_plain : (o : Option Oddity) (t : Bool) → o ≡ None → t ≡ true → (not (is_some o) && t) ≡ true
 none_plain o t e f = rw (e, f) refl
 
-pub quiet_run : (s rest : List ℕ) (w : ByteWatch) → AreQuiet w (s ++ rest) → w.line + length s ≤ 1023 → QuietRun w s rest
+pub quiet_run : (s rest : List ℕ) (w : ByteWatch) → AreQuiet w (s ++ rest) → w.line + length s ≤ 1015 → QuietRun w s rest
 quiet_run [] rest w q short = record { plain = refl; quiet = q; line = omega arith }
 quiet_run (b ∷ s) rest w q short =
-    let small : w.line ≤ 1022 = omega arith in
+    let small : w.line ≤ 1014 = omega arith in
     let more = grown w b in
     let next = quiet_run s rest (stepped w b) (quiet_next w b (s ++ rest) q (λ _. small)) (omega (arith, more)) in
     record {
@@ -106,7 +106,7 @@ feed_any : {A : Type 0} → true ≡ false → A
 feed_any e = absurd (cc)
 
 -- bytes up to a line feed are passed
-pub passed_fed : (s rest : List ℕ) (w : ByteWatch) → AreQuiet w (s ++ 10 ∷ rest) → w.line + length s ≤ 1023 → IsPassed w (s ++ 10 ∷ []) fed
+pub passed_fed : (s rest : List ℕ) (w : ByteWatch) → AreQuiet w (s ++ 10 ∷ rest) → w.line + length s ≤ 1015 → IsPassed w (s ++ 10 ∷ []) fed
 passed_fed s rest w q short =
     let run = quiet_run s (10 ∷ rest) w q short in
     record {
@@ -115,7 +115,7 @@ passed_fed s rest w q short =
       long = λ long. absurd (omega (arith, long));
     }
 
-pub fed_quiet : (s rest : List ℕ) (w : ByteWatch) → AreQuiet w (s ++ 10 ∷ rest) → w.line + length s ≤ 1023 → AreQuiet fed rest
+pub fed_quiet : (s rest : List ℕ) (w : ByteWatch) → AreQuiet w (s ++ 10 ∷ rest) → w.line + length s ≤ 1015 → AreQuiet fed rest
 fed_quiet s rest w q short =
     let run = quiet_run s (10 ∷ rest) w q short in
     quiet_next (after w s) 10 rest run.quiet (λ e. feed_any e)
@@ -135,9 +135,9 @@ longer w x s = record {
   first = if w.line == 0 then x else w.first;
 }
 
-one_longer : (w : ByteWatch) (x : ℕ) → w.line ≤ 1023 → next_vcf w x ≡ 0 → lengthened w x ≡ longer w x []
+one_longer : (w : ByteWatch) (x : ℕ) → w.line ≤ 1015 → next_vcf w x ≡ 0 → lengthened w x ≡ longer w x []
 one_longer w x short vcf =
-    let e : nat_lt 1023 w.line ≡ false = above_not 1023 w.line short in
+    let e : nat_lt 1015 w.line ≡ false = above_not 1015 w.line short in
     let f : w.line + suc 0 ≡ suc w.line = omega arith in
     rw (e, vcf, f) refl
 
@@ -148,11 +148,11 @@ more_longer w v x y s e =
     let g : ((w.line + suc 0) == 0) ≡ false = ap (λ (k : ℕ). k == 0) one ∙ suc_zero w.line in
     rw e (rw (f, g) refl)
 
-pub line_run : (s rest : List ℕ) (w : ByteWatch) (x : ℕ) → AreQuiet w (x ∷ (s ++ rest)) → HasNoFeed (x ∷ s) → w.line + suc (length s) ≤ 1024 → after w (x ∷ s) ≡ longer w x s
+pub line_run : (s rest : List ℕ) (w : ByteWatch) (x : ℕ) → AreQuiet w (x ∷ (s ++ rest)) → HasNoFeed (x ∷ s) → w.line + suc (length s) ≤ 1016 → after w (x ∷ s) ≡ longer w x s
 line_run [] rest w x q none short =
     rw (none.0) (one_longer w x (omega arith) (vcf_quiet w x (quiet_head w x rest q)))
 line_run (y ∷ s) rest w x q none short =
-    let small : w.line ≤ 1022 = omega arith in
+    let small : w.line ≤ 1014 = omega arith in
     let one : stepped w x ≡ longer w x [] = rw (none.0) (one_longer w x (omega arith) (vcf_quiet w x (quiet_head w x (y ∷ (s ++ rest)) q))) in
     let grew = grown w x in
     line_run s rest (stepped w x) y (quiet_next w x (y ∷ (s ++ rest)) q (λ _. small)) none.1 (omega (arith, grew))
@@ -178,13 +178,13 @@ last_of x (y ∷ s) =
       other = λ none. let others = rest.other none.1 in (others.0, (none.0, others.1));
     }
 
-line_grows : (s rest : List ℕ) (w : ByteWatch) → AreQuiet w (s ++ rest) → HasNoFeed s → w.line + length s ≤ 1023 → (after w s).line ≡ w.line + length s
+line_grows : (s rest : List ℕ) (w : ByteWatch) → AreQuiet w (s ++ rest) → HasNoFeed s → w.line + length s ≤ 1015 → (after w s).line ≡ w.line + length s
 line_grows [] rest w q none short = omega arith
 line_grows (x ∷ s) rest w q none short =
     ap (λ (v : ByteWatch). v.line) (line_run s rest w x q none (omega arith))
 
 -- bytes of a line are passed, the last of which may make it too long
-pub passed_line : (s rest : List ℕ) (w : ByteWatch) (x : ℕ) → AreQuiet w ((x ∷ s) ++ rest) → HasNoFeed (x ∷ s) → w.line + suc (length s) ≤ 1024 → IsPassed w (x ∷ s) (longer w x s)
+pub passed_line : (s rest : List ℕ) (w : ByteWatch) (x : ℕ) → AreQuiet w ((x ∷ s) ++ rest) → HasNoFeed (x ∷ s) → w.line + suc (length s) ≤ 1016 → IsPassed w (x ∷ s) (longer w x s)
 passed_line s rest w x q none short = record {
   is = sym (line_run s rest w x q none short);
   plain = λ small. (quiet_run (x ∷ s) rest w q (omega (arith, small))).plain;
@@ -194,18 +194,18 @@ passed_line s rest w x q none short = record {
       let others = last.other none in
       let joined : (x ∷ s) ++ rest ≡ last.front ++ (last.byte ∷ rest) = ap (λ (l : List ℕ). l ++ rest) last.is ∙ append_assoc last.front (last.byte ∷ []) rest in
       let quiet : AreQuiet w (last.front ++ (last.byte ∷ rest)) = subst (λ (l : List ℕ). AreQuiet w l) joined q in
-      let room : w.line + length last.front ≤ 1023 = omega (arith, size) in
+      let room : w.line + length last.front ≤ 1015 = omega (arith, size) in
       let run = quiet_run last.front (last.byte ∷ rest) w quiet room in
-      let line : (after w last.front).line ≡ 1023 = line_grows last.front (last.byte ∷ rest) w quiet others.1 room ∙ omega (arith, size, long) in
+      let line : (after w last.front).line ≡ 1015 = line_grows last.front (last.byte ∷ rest) w quiet others.1 room ∙ omega (arith, size, long) in
       (last.front, last.byte, last.is, run.plain, long_quiet (after w last.front) last.byte rest run.quiet others.0 line);
 }
 
-pub line_quiet : (s rest : List ℕ) (w : ByteWatch) (x : ℕ) → AreQuiet w ((x ∷ s) ++ rest) → HasNoFeed (x ∷ s) → w.line + suc (length s) ≤ 1023 → AreQuiet (longer w x s) rest
+pub line_quiet : (s rest : List ℕ) (w : ByteWatch) (x : ℕ) → AreQuiet w ((x ∷ s) ++ rest) → HasNoFeed (x ∷ s) → w.line + suc (length s) ≤ 1015 → AreQuiet (longer w x s) rest
 line_quiet s rest w x q none short =
     subst (λ (v : ByteWatch). AreQuiet v rest) (line_run s rest w x q none (omega arith)) (quiet_run (x ∷ s) rest w q (omega arith)).quiet
 
 -- bytes that are passed, and more of them
-pub passed_more : (w v u : ByteWatch) (xs ys : List ℕ) → IsPassed w xs v → v.line ≤ 1023 → IsPassed v ys u → IsPassed w (xs ++ ys) u
+pub passed_more : (w v u : ByteWatch) (xs ys : List ℕ) → IsPassed w xs v → v.line ≤ 1015 → IsPassed v ys u → IsPassed w (xs ++ ys) u
 passed_more w v u xs ys one short two = record {
   is = two.is ∙ ap (λ (a : ByteWatch). after a ys) one.is ∙ sym (after_more w xs ys);
   plain = λ small. rw (plain_more w xs ys, one.plain short, ← one.is) (two.plain small);
@@ -220,14 +220,14 @@ passed_more w v u xs ys one short two = record {
 }
 
 -- no bytes are passed
-pub passed_none : (w : ByteWatch) → w.line ≤ 1023 → IsPassed w [] w
+pub passed_none : (w : ByteWatch) → w.line ≤ 1015 → IsPassed w [] w
 passed_none w short = record { is = refl; plain = λ _. refl; long = λ long. absurd (omega (arith, long, short)) }
 
 long_goes_on : (w : ByteWatch) (b : ℕ) → oddity_at w b ≡ Some Long → (b == 10) ≡ false
 long_goes_on w b e = grind arith
 
 -- a line that got too long is found
-pub found_long : (w v : ByteWatch) (block : List ℕ) (at : ℕ) (found : OddBytes) → IsPassed w (take at block) v → 1023 < v.line → found.oddity ≡ Long → found.feeds ≡ feeds_in (take at block) → IsFound w block found
+pub found_long : (w v : ByteWatch) (block : List ℕ) (at : ℕ) (found : OddBytes) → IsPassed w (take at block) v → 1015 < v.line → found.oddity ≡ Long → found.feeds ≡ feeds_in (take at block) → IsFound w block found
 found_long w v block at found passed big is feeds =
     let parts = passed.long big in
     record {

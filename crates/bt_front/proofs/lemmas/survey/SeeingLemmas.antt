@@ -2,17 +2,17 @@
 use Rattle.bt_lines.proofs.Std.{arith, common_steps, ◌≡◌, ◌∙◌, ◌⊎◌, ℕ, suc, ◌+◌, ◌<◌, ◌≤◌, ◌++◌, List, [], ◌∷◌, Err, IfSome, IfSome_then, None, Ok, Option, Result, Some, ap, append-nil, append_assoc, false, false≢true, inl, inr, length, map, map-append, option_map, refl, subst, sym, take, true, ⊤}
 use Rattle.bt_lines.specs.calls.Faults.{no_memory}
 use Rattle.bt_lines.specs.calls.Names.{fault_value}
-use Rattle.bt_lines.specs.calls.Reader.{Hands, IsKept, end_told, fault_kept as line_fault, lines_given}
+use Rattle.bt_lines.specs.calls.Reader.{Hands, IsKept, MayStillCome, end_told, fault_kept as line_fault, lines_given}
 use Rattle.bt_lines.specs.declared.device.Source.{Ghosts as Source}
 use Rattle.bt_lines.specs.declared.fault.Fault.{Fault}
 use Rattle.bt_lines.specs.declared.fault.Kind.{Kind}
 use Rattle.bt_lines.specs.declared.fault.Kind.TheVariants.{NoMemory, ReadFailed}
 use Rattle.bt_lines.specs.model.Fault.{FaultValue, read_failed}
-use Rattle.bt_lines.proofs.lemmas.reader.block.ReadsLemmas.{hands_both, hands_none}
+use Rattle.bt_lines.proofs.lemmas.reader.block.ReadsLemmas.{comes_before, hands_both, hands_none}
 use Rattle.bt_bed.proofs.lemmas.read.good.SaidRuns.{taken_are, token_is}
 use Rattle.bt_bed.specs.calls.Batch.{IsWhere, Passes, cursor_in, left, line_in}
 use Rattle.bt_bed.specs.calls.Blocks.{FillsBlocks, IsTaken, Lends, TakesBlocks, below, buffered_in, count_in, fault_kept, view_of}
-use Rattle.bt_bed.specs.calls.Reading.{AnswersFault, BeginsComing, Cause, EndsMembers, GivesMember, LineIsWrong, LineUnread, MemberReader, Remains, RunsOut, Takes, ahead_in, first_from, good_coming, is_of_line, members_from, room, with_members}
+use Rattle.bt_bed.specs.calls.Reading.{AnswersFault, BeginsComing, Cause, EndsMembers, GivesMember, LineIsWrong, LineUnread, MemberReader, RunsOut, Takes, ahead_in, coming, first_from, is_of_line, members_from, room, with_members}
 use Rattle.bt_bed.specs.calls.SortedReader.{view_with}
 use Rattle.bt_bed.specs.declared.read.batch.Batch.{Batch}
 use Rattle.bt_bed.specs.declared.read.batch.Consumed.{Consumed}
@@ -27,10 +27,6 @@ use Rattle.bt_front.specs.calls.Survey.{IsTroubleIn}
 use Rattle.bt_front.specs.model.Survey.{AreSeen}
 
 -- ---- what a reader in blocks holds
-
-blocks_going : {S : Type 0} (blocks : Blocks S) → fault_kept blocks ≡ None → line_fault (below blocks) ≡ None
-unfolding view_of view_with
-blocks_going blocks e = grind arith
 
 lent_are : {S : Type 0} (blocks : Blocks S) (batch : Batch) → Lends blocks batch → left batch ≡ buffered_in blocks
 unfolding view_of view_with
@@ -50,7 +46,7 @@ are_taken blocks first last given consumed lends passes is = token_is blocks.sor
 
 -- a batch was seen, and what was given of it was consumed
 pub sees_buffered : {S : Type 0} (device : Source S) (old new : Blocks S) (before after : Survey) (result : Result Unit Trouble) (first last : Batch) (consumed : Consumed) → Lends old first
-    → (sees : SeesBatch before first result after last) → IsWhere last consumed → BeginsComing device.left (view_of old) → TakesBlocks device old (count_in old consumed) new
+    → (sees : SeesBatch before first result after last) → IsWhere last consumed → BeginsComing (view_of old) → TakesBlocks device old (count_in old consumed) new
     → SeesBuffered device old new before result after
 sees_buffered device old new before after result first last consumed lends sees is comes takes = record {
   given = sees.given;
@@ -66,37 +62,16 @@ sees_buffered device old new before after result first last consumed lends sees 
 -- ---- the records that were seen, and those still to come
 
 -- these members came first of what was to come
-abbrev pub Follows : Option (Good Feature) → List (Member Feature) → Option (Good Feature) → Type 0
-Follows None past now = ⊤
-Follows (Some good) past None = ⊥
-Follows (Some good) past (Some rest) = (good.members ≡ past ++ rest.members) × (good.fault ≡ rest.fault)
+abbrev pub Follows : Good Feature → List (Member Feature) → Good Feature → Type 0
+Follows good past rest = (good.members ≡ past ++ rest.members) × (good.fault ≡ rest.fault)
 
 abbrev items : List (Member Feature) → List Feature
 items members = map (λ m. m.item) members
 
-follows_none : (good : Option (Good Feature)) → Follows good [] good
-follows_none None = tt
-follows_none (Some good) = (refl, refl)
-
-follows_same : (good now new : Option (Good Feature)) (past : List (Member Feature)) → Follows good past now → Remains now new → Follows good past new
-follows_same None now new past f r = tt
-follows_same (Some good) None new past f r = absurd f
-follows_same (Some good) (Some now) None past f r = absurd r
-follows_same (Some good) (Some now) (Some new) past f r = rw r f
-
-follows_more : (good now new : Option (Good Feature)) (past more : List (Member Feature)) → Follows good past now → option_map (with_members more) new ≡ now → Follows good (past ++ more) new
-follows_more None now new past more f e = tt
-follows_more (Some good) now None past more f e = subst (Follows (Some good) past) (sym e) f
-follows_more (Some good) now (Some new) past more f e =
-    let all : Follows (Some good) past (Some (with_members more new)) = subst (Follows (Some good) past) (sym e) f in
+follows_more : (good now new : Good Feature) (past more : List (Member Feature)) → Follows good past now → now ≡ with_members more new → Follows good (past ++ more) new
+follows_more good now new past more f e =
+    let all : Follows good past (with_members more new) = subst (Follows good past) e f in
     (all.0 ∙ sym (append_assoc past more new.members), all.1)
-
-follows_all : (good now : Option (Good Feature)) (past : List (Member Feature)) → Follows good past now → IfSome now (λ rest. rest ≡ ends_with None)
-    → IfSome good (λ good. (good.fault ≡ None) × (items_in good ≡ items past))
-follows_all None now past f e = tt
-follows_all (Some good) None past f e = absurd f
-follows_all (Some good) (Some rest) past f e =
-    (f.1 ∙ ap (λ (g : Good Feature). g.fault) e, ap items (f.0 ∙ ap (λ (g : Good Feature). past ++ g.members) e ∙ append-nil past))
 
 -- the items of numbered members
 items_from : (line : ℕ) (rs : List Feature) → items (members_from line rs) ≡ rs
@@ -121,62 +96,70 @@ module _ {S : Type 0} (device : Source S) (old : Blocks S) where
   pub record Seeing (now : Blocks S) (survey : Survey) : Type 0 where
     pub past : List (Member Feature)
     pub seen : AreSeen (map (λ m. m.item) past) survey
-    pub come : Follows (good_coming device.left (view_of old)) past (good_coming device.left (view_of now))
-    pub going : fault_kept now ≡ None
     pub bytes : (bytes : List ℕ) × Hands device (below old) bytes (below now)
+    pub come : (rest : List ℕ) → MayStillCome (below now) rest → Follows (coming (bytes.0 ++ rest) (view_of old)) past (coming rest (view_of now))
+    pub going : fault_kept now ≡ None
     pub kept : IsKept device (below now)
 
   pub seeing_start : (survey : Survey) → AreSeen [] survey → fault_kept old ≡ None → IsKept device (below old) → Seeing old survey
   seeing_start survey seen going kept = record {
     past = [];
     seen = seen;
-    come = follows_none (good_coming device.left (view_of old));
-    going = going;
     bytes = ([], hands_none device (below old));
+    come = λ rest follows. (refl, refl);
+    going = going;
     kept = kept;
   }
 
   module _ (now new : Blocks S) (survey : Survey) (so : Seeing now survey) where
+    module _ {bytes : List ℕ} (hands : Hands device (below now) bytes (below new)) where
+      abbrev together : (bytes : List ℕ) × Hands device (below old) bytes (below new)
+      together = (so.bytes.0 ++ bytes, hands_both device (below old) (below now) (below new) so.bytes.0 bytes so.bytes.1 hands)
+
+      -- what comes after the records that were seen, once these bytes came
+      come_then : (rest : List ℕ) → MayStillCome (below new) rest → Follows (coming ((so.bytes.0 ++ bytes) ++ rest) (view_of old)) so.past (coming (bytes ++ rest) (view_of now))
+      come_then rest follows = rw (append_assoc so.bytes.0 bytes rest) (so.come (bytes ++ rest) (comes_before device hands rest follows))
+
     -- a record is buffered
     pub seeing_filled : FillsBlocks device now (Ok true) new → Seeing new survey
-    seeing_filled fills = record {
-      past = so.past;
-      seen = so.seen;
-      come = follows_same (good_coming device.left (view_of old)) (good_coming device.left (view_of now)) (good_coming device.left (view_of new)) so.past so.come fills.answers.1.good;
-      going = fills.answers.1.goes ∙ so.going;
-      bytes = (so.bytes.0 ++ fills.answers.1.stays.bytes.0, hands_both device (below old) (below now) (below new) so.bytes.0 fills.answers.1.stays.bytes.0 so.bytes.1 fills.answers.1.stays.bytes.1);
-      kept = fills.kept so.kept;
-    }
+    seeing_filled fills =
+        let gives = fills.answers.1 in record {
+          past = so.past;
+          seen = so.seen;
+          bytes = together gives.stays.bytes.1;
+          come = λ rest follows. subst (Follows (coming ((so.bytes.0 ++ gives.stays.bytes.0) ++ rest) (view_of old)) so.past) (gives.good rest follows) (come_then gives.stays.bytes.1 rest follows);
+          going = gives.goes ∙ so.going;
+          kept = fills.kept so.kept;
+        }
 
     -- there are no more
     pub seen_to_end : FillsBlocks device now (Ok false) new → HasSeenAll device old new survey
-    seen_to_end fills = record {
-      bytes = (so.bytes.0 ++ fills.answers.stays.bytes.0, hands_both device (below old) (below now) (below new) so.bytes.0 fills.answers.stays.bytes.0 so.bytes.1 fills.answers.stays.bytes.1);
-      going = blocks_going new fills.answers.goes;
-      told = fills.answers.told;
-      kept = fills.kept so.kept;
-      all = IfSome_then (good_coming device.left (view_of old)) (follows_all (good_coming device.left (view_of old)) (good_coming device.left (view_of now)) so.past so.come fills.answers.none_left)
-          (λ good are. (are.0, subst (λ (l : List Feature). AreSeen l survey) (sym are.1) so.seen));
-    }
+    seen_to_end fills =
+        let ends = fills.answers in
+        let still : MayStillCome (below now) ends.stays.bytes.0 = λ told. sym (append-nil ends.stays.bytes.0) ∙ comes_before device ends.stays.bytes.1 [] (λ e. refl) told in
+        let last = subst (Follows (coming (so.bytes.0 ++ ends.stays.bytes.0) (view_of old)) so.past) ends.none_left (so.come ends.stays.bytes.0 still) in
+        record {
+          bytes = together ends.stays.bytes.1;
+          going = ends.below_goes;
+          told = ends.told;
+          kept = fills.kept so.kept;
+          faultless = last.1;
+          records = subst (λ (l : List Feature). AreSeen l survey) (sym (ap items (last.0 ∙ append-nil so.past))) so.seen;
+        }
 
     -- a line is at fault, or can't be read
     pub seen_to_fault : (fault : Fault) → FillsBlocks device now (Err fault) new → StopsSeeing device old new (Refused fault)
     seen_to_fault fault fills = record {
-      bytes = (so.bytes.0 ++ fills.answers.stays.bytes.0, hands_both device (below old) (below now) (below new) so.bytes.0 fills.answers.stays.bytes.0 so.bytes.1 fills.answers.stays.bytes.1);
-      trouble_is = at_fault (good_coming device.left (view_of old)) (good_coming device.left (view_of now)) so.come (λ of_line. wrong_line of_line (fills.answers.first so.going));
+      bytes = together fills.answers.stays.bytes.1;
+      kept = fills.kept so.kept;
+      trouble_is = λ rest follows of_line. (come_then fills.answers.stays.bytes.1 rest follows).1 ∙ wrong_line of_line rest follows (fills.answers.first so.going);
     }
       where
-        wrong_line : is_of_line fault.kind ≡ true → Cause device (view_of now) (fault_value fault) (view_of new)
-            → IfSome (good_coming device.left (view_of now)) (λ good. good ≡ ends_with (Some (fault_value fault)))
-        wrong_line of_line (inl wrong) = wrong.none_left
-        wrong_line of_line (inr (inl unread)) = absurd (false≢true (sym (ap (λ (f : FaultValue). is_of_line f.kind) unread.fails.is) ∙ of_line))
-        wrong_line of_line (inr (inr runs_out)) = absurd (false≢true (sym (ap (λ (f : FaultValue). is_of_line f.kind) runs_out.is) ∙ of_line))
-
-        at_fault : (good rest : Option (Good Feature)) → Follows good so.past rest → (is_of_line fault.kind ≡ true → IfSome rest (λ good. good ≡ ends_with (Some (fault_value fault))))
-            → IfSome good (λ good. IsTroubleIn good (Refused fault))
-        at_fault None rest f is = tt
-        at_fault (Some good) None f is = absurd f
-        at_fault (Some good) (Some rest) f is = λ of_line. f.1 ∙ ap (λ (g : Good Feature). g.fault) (is of_line)
+        wrong_line : is_of_line fault.kind ≡ true → (rest : List ℕ) → MayStillCome (below new) rest → Cause device (view_of now) fills.answers.stays.bytes.0 (fault_value fault) (view_of new)
+            → (coming (fills.answers.stays.bytes.0 ++ rest) (view_of now)).fault ≡ Some (fault_value fault)
+        wrong_line of_line rest follows (inl wrong) = ap (λ (g : Good Feature). g.fault) (wrong.none_left rest follows)
+        wrong_line of_line rest follows (inr (inl unread)) = absurd (false≢true (sym (ap (λ (f : FaultValue). is_of_line f.kind) unread.fails.is) ∙ of_line))
+        wrong_line of_line rest follows (inr (inr runs_out)) = absurd (false≢true (sym (ap (λ (f : FaultValue). is_of_line f.kind) runs_out.is) ∙ of_line))
 
     -- what is buffered was seen
     pub seeing_more : (after : Survey) → SeesBuffered device now new survey (Ok tt) after → Seeing new after
@@ -185,17 +168,20 @@ module _ {S : Type 0} (device : Source S) (old : Blocks S) where
           past = so.past ++ members_from lines sees.given;
           seen = subst (λ (l : List Feature). AreSeen l after) (sym (items_more so.past lines sees.given))
               (subst (λ (l : List Feature). AreSeen (items so.past ++ l) after) (sees.buffered ∙ ap (λ (l : List Feature). sees.given ++ l) (sees.all refl) ∙ append-nil sees.given) (sees.tells (items so.past) so.seen));
-          come = follows_more (good_coming device.left (view_of old)) (good_coming device.left (view_of now)) (good_coming device.left (view_of new)) so.past (members_from lines sees.given) so.come sees.takes.good;
+          bytes = together sees.takes.hands;
+          come = λ rest follows. follows_more (coming ((so.bytes.0 ++ []) ++ rest) (view_of old)) (coming rest (view_of now)) (coming rest (view_of new)) so.past (members_from lines sees.given)
+              (come_then sees.takes.hands rest follows) (sees.takes.good rest follows);
           going = sees.takes.goes ∙ so.going;
-          bytes = (so.bytes.0 ++ [], hands_both device (below old) (below now) (below new) so.bytes.0 [] so.bytes.1 sees.takes.hands);
           kept = sees.takes.kept so.kept;
         }
 
     -- something in it leaves the text to bedtools
     pub seen_to_trouble : (after : Survey) (trouble : Trouble) → SeesBuffered device now new survey (Err trouble) after → StopsSeeing device old new trouble
     seen_to_trouble after trouble sees = record {
-      bytes = (so.bytes.0 ++ [], hands_both device (below old) (below now) (below new) so.bytes.0 [] so.bytes.1 sees.takes.hands);
-      trouble_is = leaves_in (good_coming device.left (view_of old)) (good_coming device.left (view_of now)) so.come sees.comes trouble (sees.tells (items so.past) so.seen);
+      bytes = together sees.takes.hands;
+      kept = sees.takes.kept so.kept;
+      trouble_is = λ rest follows. leaves_in (coming ((so.bytes.0 ++ []) ++ rest) (view_of old)) (coming rest (view_of now)) (come_then sees.takes.hands rest follows)
+          (sees.comes rest (comes_before device sees.takes.hands rest follows)) trouble (sees.tells (items so.past) so.seen);
     }
       where
         -- the members before a record of the batch
@@ -207,11 +193,9 @@ module _ {S : Type 0} (device : Source S) (old : Blocks S) where
             ∙ append_assoc (members_from (next_line now) before) (members_from ((next_line now) + length before) (r ∷ more)) behind)
             ∙ sym (append_assoc so.past (members_from (next_line now) before) (record { line = (next_line now) + length before; item = r } ∷ (members_from (suc ((next_line now) + length before)) more ++ behind)))
 
-        leaves_in : (good rest : Option (Good Feature)) → Follows good so.past rest → IfSome rest (λ good. (behind : List (Member Feature)) × (good.members ≡ members_from (next_line now) (buffered_in now) ++ behind))
-            → (trouble : Trouble) → LeavesOf (items so.past) (buffered_in now) (lines_given (below now)) trouble → IfSome good (λ good. IsTroubleIn good trouble)
-        leaves_in None rest f begins trouble leaves = tt
-        leaves_in (Some good) None f begins trouble leaves = absurd f
-        leaves_in (Some good) (Some rest) f begins (Odd odd) leaves = record {
+        leaves_in : (good rest : Good Feature) → Follows good so.past rest → (behind : List (Member Feature)) × (rest.members ≡ members_from (next_line now) (buffered_in now) ++ behind)
+            → (trouble : Trouble) → LeavesOf (items so.past) (buffered_in now) (lines_given (below now)) trouble → IsTroubleIn good trouble
+        leaves_in good rest f begins (Odd odd) leaves = record {
           before = so.past ++ members_from (next_line now) leaves.before;
           r = leaves.r;
           comes = record {
@@ -222,7 +206,7 @@ module _ {S : Type 0} (device : Source S) (old : Blocks S) where
           };
           is = leaves.is;
         }
-        leaves_in (Some good) (Some rest) f begins (ComesBack back) leaves = record {
+        leaves_in good rest f begins (ComesBack back) leaves = record {
           before = so.past;
           r = leaves.r;
           comes = record {
@@ -233,7 +217,7 @@ module _ {S : Type 0} (device : Source S) (old : Blocks S) where
           };
           is = leaves.is;
         }
-        leaves_in (Some good) (Some rest) f begins (Refused fault) leaves = λ of_line. absurd (false≢true (sym leaves ∙ of_line))
+        leaves_in good rest f begins (Refused fault) leaves = λ of_line. absurd (false≢true (sym leaves ∙ of_line))
 
 -- fewer bytes may come after a batch
 some_given : (line : ℕ) (records : List Feature) (m : Member Feature) → first_from line records ≡ Some m → 0 < length records

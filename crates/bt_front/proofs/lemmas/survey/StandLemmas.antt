@@ -22,10 +22,10 @@ pub record Stands (number : ℕ) (l : List ℕ) (w : ByteWatch) : Type 0 where
 record SoFar (number : ℕ) (l : List ℕ) : Type 0 where
   double : has_double_return l ≡ false
   nul : list_any (λ byte. byte == 0) l ≡ false
-  long : nat_lt 1023 (length l) ≡ false
+  long : nat_lt 1015 (length l) ≡ false
   vcf : begins_with (codes "##fileformat=VCF") l ≡ false
   mark : ((number == 1) && begins_with (239 ∷ 187 ∷ 191 ∷ []) l) ≡ false
-  gzip : ((number == 1) && begins_with (31 ∷ 139 ∷ []) l) ≡ false
+  gzip : ((number == 1) && begins_with (31 ∷ []) l) ≡ false
 
 not_so : (b : Bool) → not b ≡ true → b ≡ false
 not_so true e = sym e
@@ -46,24 +46,24 @@ six_not d u g v z k a b c e f h = rw (a, b, c, e, f, h) refl
 
 so_far_parts : (n : ℕ) (l : List ℕ) → is_plain_so_far (line_of n l) ≡ true → SoFar n l
 so_far_parts n l e =
-    let p = six_parts (has_double_return l) (list_any (λ byte. byte == 0) l) (nat_lt 1023 (length l)) (begins_with (codes "##fileformat=VCF") l)
-    ((n == 1) && begins_with (239 ∷ 187 ∷ 191 ∷ []) l) ((n == 1) && begins_with (31 ∷ 139 ∷ []) l) e in
+    let p = six_parts (has_double_return l) (list_any (λ byte. byte == 0) l) (nat_lt 1015 (length l)) (begins_with (codes "##fileformat=VCF") l)
+    ((n == 1) && begins_with (239 ∷ 187 ∷ 191 ∷ []) l) ((n == 1) && begins_with (31 ∷ []) l) e in
     record { double = p.0; nul = p.1; long = p.2; vcf = p.3; mark = p.4; gzip = p.5 }
 
 so_far_is : (n : ℕ) (l : List ℕ) → SoFar n l → is_plain_so_far (line_of n l) ≡ true
 so_far_is n l s =
-    six_not (has_double_return l) (list_any (λ byte. byte == 0) l) (nat_lt 1023 (length l)) (begins_with (codes "##fileformat=VCF") l)
-    ((n == 1) && begins_with (239 ∷ 187 ∷ 191 ∷ []) l) ((n == 1) && begins_with (31 ∷ 139 ∷ []) l) s.double s.nul s.long s.vcf s.mark s.gzip
+    six_not (has_double_return l) (list_any (λ byte. byte == 0) l) (nat_lt 1015 (length l)) (begins_with (codes "##fileformat=VCF") l)
+    ((n == 1) && begins_with (239 ∷ 187 ∷ 191 ∷ []) l) ((n == 1) && begins_with (31 ∷ []) l) s.double s.nul s.long s.vcf s.mark s.gzip
 
 -- What the line has with one byte more.
 
 pub record NextIs (n : ℕ) (l : List ℕ) (w : ByteWatch) (b : ℕ) : Type 0 where
   pub double : has_double_return (l ++ b ∷ []) ≡ ((b == 13) && (w.last == 13))
   pub nul : list_any (λ byte. byte == 0) (l ++ b ∷ []) ≡ (b == 0)
-  pub long : nat_lt 1023 (length (l ++ b ∷ [])) ≡ nat_lt 1022 w.line
+  pub long : nat_lt 1015 (length (l ++ b ∷ [])) ≡ nat_lt 1014 w.line
   pub vcf : begins_with (codes "##fileformat=VCF") (l ++ b ∷ []) ≡ (next_vcf w b == 16)
   pub mark : ((n == 1) && begins_with (239 ∷ 187 ∷ 191 ∷ []) (l ++ b ∷ [])) ≡ is_mark_at w b
-  pub gzip : ((n == 1) && begins_with (31 ∷ 139 ∷ []) (l ++ b ∷ [])) ≡ is_gzip_at w b
+  pub gzip : ((n == 1) && begins_with (31 ∷ []) (l ++ b ∷ [])) ≡ is_gzip_at w b
 
 and_swap : (a b : Bool) → (a && b) ≡ (b && a)
 and_swap true true = refl
@@ -105,17 +105,17 @@ next_is n l w b s =
     record {
       double = double_push l 10 b refl ∙ or_new (has_double_return l) ((last_after 10 l == 13) && (b == 13)) p.double ∙ and_swap (last_after 10 l == 13) (b == 13) ∙ ap (λ (x : ℕ). (b == 13) && (x == 13)) (sym s.last);
       nul = list_any-append (λ byte. byte == 0) l (b ∷ []) ∙ or_new (list_any (λ byte. byte == 0) l) ((b == 0) || false) p.nul ∙ or-false (b == 0);
-      long = ap (λ (k : ℕ). nat_lt 1023 k) (length_push l b) ∙ above_next (length l) ∙ ap (λ (k : ℕ). nat_lt 1022 k) (sym s.line);
+      long = ap (λ (k : ℕ). nat_lt 1015 k) (length_push l b) ∙ above_next (length l) ∙ ap (λ (k : ℕ). nat_lt 1014 k) (sym s.line);
       vcf = begins_push (codes "##fileformat=VCF") l b ∙ or_new (begins_with (codes "##fileformat=VCF") l) (grows (codes "##fileformat=VCF") l b && (suc (length l) == 16)) p.vcf
           ∙ counted_is (grows (codes "##fileformat=VCF") l b) (length l) ∙ ap (λ (k : ℕ). k == 16) (sym (next_vcf_is n l w b s));
       mark = ap (λ (t : Bool). (n == 1) && t) (begins_push (239 ∷ 187 ∷ 191 ∷ []) l b)
           ∙ and_or_new (n == 1) (begins_with (239 ∷ 187 ∷ 191 ∷ []) l) (grows (239 ∷ 187 ∷ 191 ∷ []) l b && (suc (length l) == 3)) p.mark
           ∙ ap (λ (t : Bool). (n == 1) && t) (mark_push l b)
           ∙ rw (s.is_first, s.line, s.last) (guarded (n == 1) _ _ (λ one. guarded (length l == 2) _ _ (λ two. rw (head one (some_length l 1 two)) refl)));
-      gzip = ap (λ (t : Bool). (n == 1) && t) (begins_push (31 ∷ 139 ∷ []) l b)
-          ∙ and_or_new (n == 1) (begins_with (31 ∷ 139 ∷ []) l) (grows (31 ∷ 139 ∷ []) l b && (suc (length l) == 2)) p.gzip
+      gzip = ap (λ (t : Bool). (n == 1) && t) (begins_push (31 ∷ []) l b)
+          ∙ and_or_new (n == 1) (begins_with (31 ∷ []) l) (grows (31 ∷ []) l b && (suc (length l) == 1)) p.gzip
           ∙ ap (λ (t : Bool). (n == 1) && t) (gzip_push l b)
-          ∙ rw (s.is_first, s.line) (guarded (n == 1) _ _ (λ one. guarded (length l == 1) _ _ (λ two. rw (head one (some_length l 0 two)) refl)));
+          ∙ rw (s.is_first, s.line) refl;
     }
 
 -- The tests of a watch, one after the other.
@@ -163,15 +163,15 @@ first_push : (l : List ℕ) (line first b : ℕ) → line ≡ length l → (0 < 
 first_push [] line first b e h = rw e refl
 first_push (x ∷ l) line first b e h = let k : 0 < line = omega (arith, e) in rw (e, suc_zero (length l)) (h k)
 
-line_push : (w : ByteWatch) (l : List ℕ) (b : ℕ) → w.line ≡ length l → nat_lt 1023 (length l) ≡ false → (lengthened w b).line ≡ length (l ++ b ∷ [])
+line_push : (w : ByteWatch) (l : List ℕ) (b : ℕ) → w.line ≡ length l → nat_lt 1015 (length l) ≡ false → (lengthened w b).line ≡ length (l ++ b ∷ [])
 line_push w l b e short =
-    let f : nat_lt 1023 w.line ≡ false = ap (λ (k : ℕ). nat_lt 1023 k) e ∙ short in
+    let f : nat_lt 1015 w.line ≡ false = ap (λ (k : ℕ). nat_lt 1015 k) e ∙ short in
     rw f (ap (λ (k : ℕ). suc k) e ∙ sym (length_push l b))
 
 pub stands_next : (n : ℕ) (l : List ℕ) (w : ByteWatch) (b : ℕ) → Stands n l w → odd_in_line w b ≡ None → Stands n (l ++ b ∷ []) (lengthened w b)
 stands_next n l w b s none =
     let now = next_is n l w b s in
-    let t = chain_parts (b == 0) ((b == 13) && (w.last == 13)) (nat_lt 1022 w.line) (next_vcf w b == 16) (is_gzip_at w b) (is_mark_at w b) none in
+    let t = chain_parts (b == 0) ((b == 13) && (w.last == 13)) (nat_lt 1014 w.line) (next_vcf w b == 16) (is_gzip_at w b) (is_mark_at w b) none in
     record {
       so_far = so_far_is n (l ++ b ∷ []) (record {
         double = now.double ∙ t.1;
@@ -203,7 +203,7 @@ begins_more (c ∷ beginning) (x ∷ l) more e = grind (arith, (begins_more begi
 any_more : (p : ℕ → Bool) (l more : List ℕ) → list_any p l ≡ true → list_any p (l ++ more) ≡ true
 any_more p l more e = rw (list_any-append p l more, e) refl
 
-long_more : (l more : List ℕ) → nat_lt 1023 (length l) ≡ true → nat_lt 1023 (length (l ++ more)) ≡ true
+long_more : (l more : List ℕ) → nat_lt 1015 (length l) ≡ true → nat_lt 1015 (length (l ++ more)) ≡ true
 long_more l more e = let k = length-append l more in grind (arith, nat_tests)
 
 and_more : (t x y : Bool) → (x ≡ true → y ≡ true) → (t && x) ≡ true → (t && y) ≡ true
@@ -211,7 +211,7 @@ and_more true x y h e = h e
 and_more false x y h e = e
 
 still_odd : (n : ℕ) (l more : List ℕ) (w : ByteWatch) (b : ℕ) → NextIs n l w b → (o : Oddity)
-    → test_of o (b == 0) ((b == 13) && (w.last == 13)) (nat_lt 1022 w.line) (next_vcf w b == 16) (is_gzip_at w b) (is_mark_at w b) ≡ true
+    → test_of o (b == 0) ((b == 13) && (w.last == 13)) (nat_lt 1014 w.line) (next_vcf w b == 16) (is_gzip_at w b) (is_mark_at w b) ≡ true
     → is_odd o (line_of n ((l ++ b ∷ []) ++ more)) ≡ true
 still_odd n l more w b now Blank e = absurd (cc)
 still_odd n l more w b now DoubleReturn e = double_more (l ++ b ∷ []) more (now.double ∙ e)
@@ -219,13 +219,13 @@ still_odd n l more w b now Nul e = any_more (λ byte. byte == 0) (l ++ b ∷ [])
 still_odd n l more w b now Long e = long_more (l ++ b ∷ []) more (now.long ∙ e)
 still_odd n l more w b now Vcf e = begins_more (codes "##fileformat=VCF") (l ++ b ∷ []) more (now.vcf ∙ e)
 still_odd n l more w b now ByteOrderMark e = and_more (n == 1) _ _ (begins_more (239 ∷ 187 ∷ 191 ∷ []) (l ++ b ∷ []) more) (now.mark ∙ e)
-still_odd n l more w b now Gzip e = and_more (n == 1) _ _ (begins_more (31 ∷ 139 ∷ []) (l ++ b ∷ []) more) (now.gzip ∙ e)
+still_odd n l more w b now Gzip e = and_more (n == 1) _ _ (begins_more (31 ∷ []) (l ++ b ∷ []) more) (now.gzip ∙ e)
 still_odd n l more w b now HeaderName e = absurd (cc)
 still_odd n l more w b now FarEnd e = absurd (cc)
 
 pub odd_line : (n : ℕ) (l more : List ℕ) (w : ByteWatch) (b : ℕ) (o : Oddity) → Stands n l w → odd_in_line w b ≡ Some o → is_odd o (line_of n ((l ++ b ∷ []) ++ more)) ≡ true
 odd_line n l more w b o s e =
-    still_odd n l more w b (next_is n l w b s) o (chain_some (b == 0) ((b == 13) && (w.last == 13)) (nat_lt 1022 w.line) (next_vcf w b == 16) (is_gzip_at w b) (is_mark_at w b) o e)
+    still_odd n l more w b (next_is n l w b s) o (chain_some (b == 0) ((b == 13) && (w.last == 13)) (nat_lt 1014 w.line) (next_vcf w b == 16) (is_gzip_at w b) (is_mark_at w b) o e)
 
 -- The line at its end.
 

@@ -16,7 +16,7 @@ two_one n = grind (arith, nat_tests)
 pub one_two : (n : ℕ) → (1 == suc (suc n)) ≡ false
 one_two n = grind (arith, nat_tests)
 
-pub above_next : (n : ℕ) → nat_lt 1023 (suc n) ≡ nat_lt 1022 n
+pub above_next : (n : ℕ) → nat_lt 1015 (suc n) ≡ nat_lt 1014 n
 above_next n = grind (arith, nat_tests)
 
 pub nothing : (b : Bool) → (b && false) ≡ false

@@ -20,15 +20,15 @@ window_split window rest at within feed =
 window_front : (window : List ℕ) (at : ℕ) → at < length window → get_or window at 0 ≡ 10 → take (at + 1) window ≡ take at window ++ 10 ∷ []
 window_front window at within feed = take_more window at 0 within ∙ ap (λ (b : ℕ). take at window ++ b ∷ []) feed
 
-window_room : (window : List ℕ) (at line : ℕ) → at < length window → line + length window ≤ 1024 → line + length (take at window) ≤ 1023
+window_room : (window : List ℕ) (at line : ℕ) → at < length window → line + length window ≤ 1016 → line + length (take at window) ≤ 1015
 window_room window at line within room = let e = length-take-le at window (omega arith) in omega (arith, e)
 
-pub feed_passed : (window rest : List ℕ) (w : ByteWatch) (at : ℕ) → at < length window → get_or window at 0 ≡ 10 → w.line + length window ≤ 1024 → AreQuiet w (window ++ rest) → IsPassed w (take (at + 1) window) fed
+pub feed_passed : (window rest : List ℕ) (w : ByteWatch) (at : ℕ) → at < length window → get_or window at 0 ≡ 10 → w.line + length window ≤ 1016 → AreQuiet w (window ++ rest) → IsPassed w (take (at + 1) window) fed
 feed_passed window rest w at within feed room q =
     rw (window_front window at within feed)
     (passed_fed (take at window) (drop (suc at) window ++ rest) w (subst (λ (l : List ℕ). AreQuiet w l) (window_split window rest at within feed) q) (window_room window at w.line within room))
 
-pub feed_quiet : (window rest : List ℕ) (w : ByteWatch) (at : ℕ) → at < length window → get_or window at 0 ≡ 10 → w.line + length window ≤ 1024 → AreQuiet w (window ++ rest) → AreQuiet fed (drop (at + 1) window ++ rest)
+pub feed_quiet : (window rest : List ℕ) (w : ByteWatch) (at : ℕ) → at < length window → get_or window at 0 ≡ 10 → w.line + length window ≤ 1016 → AreQuiet w (window ++ rest) → AreQuiet fed (drop (at + 1) window ++ rest)
 feed_quiet window rest w at within feed room q =
     let f : at + 1 ≡ suc at = omega arith in
     rw f (fed_quiet (take at window) (drop (suc at) window ++ rest) w (subst (λ (l : List ℕ). AreQuiet w l) (window_split window rest at within feed) q) (window_room window at w.line within room))
@@ -58,12 +58,12 @@ windowed_is w x s =
     let f : suc (length s) - 1 ≡ length s = omega arith in
     rw (f, last_at x s) refl
 
-pub line_passed : (window rest : List ℕ) (w : ByteWatch) → 0 < length window → HasNoFeed window → w.line + length window ≤ 1024 → AreQuiet w (window ++ rest) → IsPassed w (take (length window) window) (windowed w window)
+pub line_passed : (window rest : List ℕ) (w : ByteWatch) → 0 < length window → HasNoFeed window → w.line + length window ≤ 1016 → AreQuiet w (window ++ rest) → IsPassed w (take (length window) window) (windowed w window)
 line_passed [] rest w some none room q = absurd (omega arith)
 line_passed (x ∷ s) rest w some none room q =
     rw (take-length (x ∷ s)) (subst (λ (v : ByteWatch). IsPassed w (x ∷ s) v) (windowed_is w x s) (passed_line s rest w x q none room))
 
-pub line_goes_on : (window rest : List ℕ) (w : ByteWatch) → 0 < length window → HasNoFeed window → AreQuiet w (window ++ rest) → (windowed w window).line ≤ 1023 → AreQuiet (windowed w window) (drop (length window) window ++ rest)
+pub line_goes_on : (window rest : List ℕ) (w : ByteWatch) → 0 < length window → HasNoFeed window → AreQuiet w (window ++ rest) → (windowed w window).line ≤ 1015 → AreQuiet (windowed w window) (drop (length window) window ++ rest)
 line_goes_on [] rest w some none q short = absurd (omega arith)
 line_goes_on (x ∷ s) rest w some none q short =
     rw (drop-length (x ∷ s)) (subst (λ (v : ByteWatch). AreQuiet v rest) (windowed_is w x s) (line_quiet s rest w x q none short))
@@ -76,7 +76,7 @@ drop_within (suc r) zero xs le = absurd (omega arith)
 drop_within (suc r) (suc n) [] le = refl
 drop_within (suc r) (suc n) (x ∷ xs) le = drop_within r n xs (omega arith)
 
-pub next_passed : (w v u : ByteWatch) (block : List ℕ) (at n r : ℕ) → r ≤ n → IsPassed w (take at block) v → v.line ≤ 1023 → IsPassed v (take r (take n (drop at block))) u → IsPassed w (take (at + r) block) u
+pub next_passed : (w v u : ByteWatch) (block : List ℕ) (at n r : ℕ) → r ≤ n → IsPassed w (take at block) v → v.line ≤ 1015 → IsPassed v (take r (take n (drop at block))) u → IsPassed w (take (at + r) block) u
 next_passed w v u block at n r le one short two =
     rw (take-add at r block) (passed_more w v u (take at block) (take r (drop at block)) one short (subst (λ (l : List ℕ). IsPassed v l u) (take-take r n (drop at block) le) two))
 

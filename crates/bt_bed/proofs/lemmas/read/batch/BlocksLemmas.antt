@@ -1,10 +1,10 @@
 -- Lemmas on the reader of records in blocks.
-use Rattle.bt_lines.proofs.Std.{arith, ℕ, Bool, take, Result, IfSome}
+use Rattle.bt_lines.proofs.Std.{ℕ, Bool, true, false, take, Result, Ok, Err, IfSome}
 use Rattle.bt_lines.specs.declared.device.Source.{Ghosts as Source}
 use Rattle.bt_lines.specs.declared.fault.Fault.{Fault}
 use Rattle.bt_bed.proofs.lemmas.Definitions.{line_said, block_up_to}
 use Rattle.bt_bed.proofs.lemmas.read.good.SaidLemmas.{said_features}
-use Rattle.bt_bed.proofs.lemmas.read.batch.RecordsLemmas.{ahead_is}
+use Rattle.bt_bed.proofs.lemmas.read.batch.RecordsLemmas.{ahead_is, none_ahead}
 use Rattle.bt_bed.specs.calls.Blocks.{FillsBlocks, IsNext, TakesBlocks, view_of}
 use Rattle.bt_bed.specs.calls.SortedReader.{RunsOutForName, buffered_in as records_in, view_in, view_with}
 use Rattle.bt_bed.specs.model.Feature.{Feature}
@@ -22,7 +22,9 @@ module _ {S : Type 0} (device : Source S) where
       ahead_is (view_of new) (λ m. IsFeature m.item × IsNext old m.item) m gives.ahead (said_features gives.said.0.text m.item said.says, block_up_to (view_of old).state (locus_at m.item) said.stays)
 
   filled : (old new : Blocks S) (result : Result Bool Fault) → FillAnswers device (view_of old) result (view_of new) → IfSome (ahead_in (view_of new)) (λ m. IsFeature m.item × IsNext old m.item)
-  filled old new result makes = grind (arith, given)
+  filled old new (Ok true) makes = given old new makes.0 makes.1
+  filled old new (Ok false) makes = none_ahead (view_of new) (λ m. IsFeature m.item × IsNext old m.item) makes.none_buffered
+  filled old new (Err fault) makes = none_ahead (view_of new) (λ m. IsFeature m.item × IsNext old m.item) makes.none_buffered
 
   -- `fill` of the reader below
   pub fills_blocks : (old new : Blocks S) (result : Result Bool Fault) → Fills device (view_in block_sorting old.sorted) result (view_in block_sorting new.sorted)

@@ -1,7 +1,7 @@
 -- Lemmas on the reader of records.
-use Rattle.bt_lines.proofs.Std.{common_steps, arith, ◌≡◌, ℕ, Bool, true, false, List, [], ◌∷◌, Option, Some, None, Ok, Err, take, refl, sym, ap, ◌∙◌, subst, IfSome, IsSome, IsTrue, Result, option_map, ForSome, false≢true, ◌≤◌, bytes_eq, ◌&&◌, is_some, nat_lt, unwrap_or, nat_tests, bytes_eq-Decides, ◌+◌, ◌<◌, ◌++◌, drop, length, length-append, IfNone, strip_last, take-append-add, take-append_seam, ◌-◌, slice_range, take-add}
+use Rattle.bt_lines.proofs.Std.{common_steps, arith, ◌≡◌, ℕ, suc, Bool, true, false, List, [], ◌∷◌, Option, Some, None, Ok, Err, take, refl, sym, ap, ◌∙◌, subst, IfSome, IsSome, IsTrue, Result, option_map, ForSome, false≢true, ◌≤◌, bytes_eq, ◌&&◌, is_some, nat_lt, unwrap_or, nat_tests, bytes_eq-Decides, ◌+◌, ◌<◌, ◌++◌, drop, length, length-append, IfNone, strip_last, take-append-add, take-append_seam, ◌-◌, slice_range, take-add}
 use Rattle.bt_lines.specs.declared.device.Source.{Ghosts as Source}
-use Rattle.bt_lines.specs.calls.Reader.{input_of, lines_left, fault_kept as line_fault, lines_in, lines_after, shown_text_line, rest_in}
+use Rattle.bt_lines.specs.calls.Reader.{input_of, lines_coming, lines_given, fault_kept as line_fault, lines_in, lines_after, shown_text_line, rest_in}
 use Rattle.bt_lines.specs.declared.fault.Fault.{Fault}
 use Rattle.bt_lines.specs.declared.reader.line_reader.LineReader.{LineReader}
 use Rattle.bt_bed.proofs.lemmas.Definitions.{line_said}
@@ -18,7 +18,7 @@ use Rattle.bt_bed.specs.inside.OrderedLookahead.{IsElsewhere, last_in, start_aft
 use Rattle.bt_bed.specs.model.Order.{Order}
 use Rattle.bt_bed.specs.calls.Orders.{IsTotal, IsUpTo}
 use Rattle.bt_bed.specs.model.Sorted.{Locus, Sorting, sorting_of}
-use Rattle.bt_bed.specs.calls.Reading.{Fills, FillAnswers, GivesMember, MemberReader, Takes, ahead_in, first_from, good_coming}
+use Rattle.bt_bed.specs.calls.Reading.{Fills, FillAnswers, GivesMember, MemberReader, Takes, ahead_in, first_from, coming}
 use Rattle.bt_bed.specs.calls.Records.{FillsRecords, IsNext, TakesRecords, order_in, view_of}
 use Rattle.bt_bed.specs.calls.Bed.{is_on, record_on, run_of, run_then, IsOnLine, raw_in, record_in, text_in}
 use Rattle.bt_bed.specs.declared.read.sorted_reader.SortedReader.{SortedReader}
@@ -59,6 +59,10 @@ pub passed_last : {S Q : Type 0} (device : Source S) (sorting : Sorting) (old ne
 unfolding view_with
 passed_last device sorting old new item more is takes = grind arith
 
+-- no record is ahead if none is buffered
+pub none_ahead : {S : Type 0} (reader : MemberReader S Feature (Option Locus)) (P : Member Feature → Type 0) → reader.buffered ≡ [] → IfSome (ahead_in reader) P
+none_ahead reader P none = subst (λ (records : List Feature). IfSome (first_from (suc (lines_given reader.below)) records) P) (sym none) tt
+
 module _ {S O : Type 0} {g : Ghosts O} (device : Source S) where
   given : (old new : Records S O g) (m : Member Feature) → IsTotal (order_in old) → GivesMember device (view_of old) m (view_of new) → IfSome (ahead_in (view_of new)) (λ m. IsFeature m.item × IsNext old m.item)
   unfolding view_of view_with order_in
@@ -66,14 +70,16 @@ module _ {S O : Type 0} {g : Ghosts O} (device : Source S) where
 
   -- the record ahead after `fill` of the reader below
   filled : (old new : Records S O g) (result : Result Bool Fault) → IsTotal (order_in old) → FillAnswers device (view_of old) result (view_of new) → IfSome (ahead_in (view_of new)) (λ m. IsFeature m.item × IsNext old m.item)
-  filled old new result total makes = grind (arith, given)
+  filled old new (Ok true) total makes = given old new makes.0 total makes.1
+  filled old new (Ok false) total makes = none_ahead (view_of new) (λ m. IsFeature m.item × IsNext old m.item) makes.none_buffered
+  filled old new (Err fault) total makes = none_ahead (view_of new) (λ m. IsFeature m.item × IsNext old m.item) makes.none_buffered
 
 module _ {S Q : Type 0} (device : Source S) (sorting : Sorting) (sorted : SortedReader S Q) where
   -- a reader that has given no record has all of the good ones left
   pub good_at_start : (reader : LineReader S) → sorted.reader ≡ reader → sorted.fault ≡ None → last_in sorted.lookahead ≡ None → line_fault reader ≡ None
-      → good_coming device.left (view_in sorting sorted) ≡ option_map (good (bed_format sorting) (input_of reader)) (lines_left device.left reader)
+      → (rest : List ℕ) → coming rest (view_in sorting sorted) ≡ good (bed_format sorting) (input_of reader) (lines_coming rest reader)
   unfolding view_with
-  good_at_start reader same own last going = grind (arith, good_at_first)
+  good_at_start reader same own last going rest = grind (arith, good_at_first)
 
   pub placed_at_start : records_in sorted ≡ [] → last_in sorted.lookahead ≡ None → IsPlaced sorting (view_in sorting sorted)
   unfolding view_with

@@ -1,24 +1,23 @@
 -- Lemmas on a reader of sorted records.
 use Rattle.bt_lines.proofs.Std.{IfNone, rules, ◌≡◌, ℕ, suc, ◌-◌, ◌<◌, ◌≤◌, Bool, true, false, List, [], ◌∷◌, ◌++◌, length, take, drop, Option, Some, None, Ok, refl, sym, ap, ◌∙◌, subst, arith, length-take, take-append-drop, if◌then◌else◌, is_some, IfSome, IsTrue, option_map, ForSome, Result, Err, inl, inr}
 use Rattle.bt_lines.specs.declared.device.Source.{Ghosts as Source}
-use Rattle.bt_lines.proofs.lemmas.reader.lines.LeftLemmas.{is_prefix, taken_left}
-use Rattle.bt_lines.proofs.lemmas.reader.lines.TakingLemmas.{next_bytes, next_number}
-use Rattle.bt_lines.specs.calls.Reader.{DropsLines, TakesLines, bytes_left, buffered_bytes, buffered_in as lines_buffered, fault_kept as line_fault, input_of, lines_given, lines_left, source_of, GivesEnd, GivesFault, IsKept, MakesLine}
+use Rattle.bt_lines.proofs.lemmas.reader.lines.TakingLemmas.{next_bytes, next_number, prefix_of}
+use Rattle.bt_lines.specs.calls.Reader.{MayStillCome, TakesLines, buffered_in as lines_buffered, fault_kept as line_fault, input_of, lines_coming, lines_given, GivesEnd, GivesFault, IsKept, MakesLine}
 use Rattle.bt_lines.specs.model.Lines.{TextLine}
-use Rattle.bt_lines.specs.calls.Line.{AreNumbered, line_feeds}
+use Rattle.bt_lines.specs.calls.Line.{AreNumbered}
 use Rattle.bt_lines.specs.calls.Names.{fault_value}
 use Rattle.bt_lines.specs.declared.fault.Input.{Input}
 use Rattle.bt_lines.specs.declared.reader.line_reader.LineReader.{LineReader}
-use Rattle.bt_bed.proofs.lemmas.read.good.ReadingLemmas.{drops_pass, left_numbered, LineCame, line_came, Follows, Going, gives_again, going_end, going_member, going_more, going_start, going_unkept, going_unread, going_wrong, given_first}
+use Rattle.bt_bed.proofs.lemmas.read.good.ReadingLemmas.{none_pass, numbered_coming, LineCame, line_came, Follows, Going, gives_again, going_end, going_member, going_more, going_start, going_unkept, going_unread, going_wrong, given_first}
 use Rattle.bt_bed.proofs.lemmas.Definitions.{line_said}
 use Rattle.bt_bed.proofs.lemmas.read.batch.RecordsLemmas.{placed_there, run_some, says_of_line}
 use Rattle.bt_bed.proofs.lemmas.read.good.SaidRuns.{LinesSay, good_said, order_behind, order_is_said, place_behind, run_behind, run_is_said, run_says, said_fewer, said_in_order, say_fewer, say_front, FirstOfRun, first_of_run, says_again}
 use Rattle.bt_bed.specs.model.Feature.{Feature}
 use Rattle.bt_bed.specs.model.BedLine.{fault_at_line, record_of}
-use Rattle.bt_bed.specs.model.Good.{Format, Good, Member, or_else, bed_format, line_says, locus_at}
+use Rattle.bt_bed.specs.model.Good.{Format, Good, Member, good_after, or_else, bed_format, line_says, locus_at}
 use Rattle.bt_bed.specs.model.Sorted.{Locus, Sorting}
 use Rattle.bt_bed.specs.inside.OrderedLookahead.{HasNext, HoldsChrom, IsKnownLast, LineTaken, MakesLast, ahead_of, last_in, name_in, start_in, KeepsLast}
-use Rattle.bt_bed.specs.calls.Reading.{AreSaid, BeginsComing, LinesPass, MemberReader, Takes, good_behind, good_coming, members_from, state_behind, with_members, AnswersFault, Fills, IsLost}
+use Rattle.bt_bed.specs.calls.Reading.{AreSaid, BeginsComing, LinesPass, MemberReader, Takes, coming, good_behind, members_from, state_behind, with_members, AnswersFault, Fills, IsLost}
 use Rattle.bt_bed.specs.calls.Batch.{StandsFirst, left, left_after}
 use Rattle.bt_bed.specs.calls.Bed.{feature_lent, is_some_left, record_in, run_of}
 use Rattle.bt_bed.specs.declared.record.bed.BedRef.{BedRef}
@@ -34,34 +33,20 @@ use Rattle.bt_lines.specs.model.Fault.{FaultValue}
 use Rattle.bt_lines.specs.declared.fault.Fault.{Fault}
 use Rattle.bt_bed.proofs.lemmas.read.good.SaidLemmas.{bed_of_line}
 use Rattle.bt_bed.proofs.lemmas.read.ColumnLemmas.{said_record_name}
-use Rattle.bt_lines.proofs.lemmas.reader.block.ReadsLemmas.{hands_none}
+use Rattle.bt_lines.proofs.lemmas.reader.block.ReadsLemmas.{hands_both, hands_none}
 use Rattle.bt_bed.proofs.lemmas.order.TableLemmas.{lost_parts}
 use Rattle.bt_bed.specs.inside.FirstColumns.{IsRecordName}
 
--- if no bytes are known, none are once lines were taken
-still_unknown : {S : Type 0} (left : S → Option (List ℕ)) (old new : LineReader S) → source_of new ≡ source_of old → lines_left left old ≡ None → lines_left left new ≡ None
-unfolding bytes_left
-still_unknown left old new same none = grind arith
-
--- what is good after items that were taken
-taken_good : {A State : Type 0} (format : Format A State) (input : Input) (state : State) (number : ℕ) (items : List A) (a b : Option (List TextLine)) → IfSome a (AreNumbered number) → IfSome a (λ all. LinesSay format state all items)
-    → (a ≡ None → b ≡ None) → DropsLines a (length items) b
-    → option_map (with_members (members_from number items)) (option_map (good_behind format input None (state_behind format state items)) b) ≡ option_map (good_behind format input None state) a
-taken_good format input state number items a b n say none drops = grind (arith, good_said)
-
-say_all : {A State : Type 0} (format : Format A State) (state : State) (front : List TextLine) (items : List A) (all : Option (List TextLine)) → IfSome all (λ lines. take (length front) lines ≡ front) → LinesSay format state front items
-    → IfSome all (λ lines. LinesSay format state lines items)
-say_all format state front items all e say = grind (arith, say_front)
-
 -- items that lines say are the first of what is good
-begins_good : {A State : Type 0} (format : Format A State) (input : Input) (state : State) (number : ℕ) (items : List A) (a : Option (List TextLine)) → IfSome a (AreNumbered number) → IfSome a (λ all. LinesSay format state all items)
-    → IfSome (option_map (good_behind format input None state) a) (λ good. (rest : List (Member A)) × (good.members ≡ members_from number items ++ rest))
-begins_good format input state number items None n say = tt
-begins_good {A} {State} format input state number items (Some all) n say = grind (arith, (good_said format input number state all items n say))
+begins_good : {A State : Type 0} (format : Format A State) (input : Input) (state : State) (number : ℕ) (items : List A) (all : List TextLine) → AreNumbered number all → LinesSay format state all items
+    → (more : List (Member A)) × ((good_after format input state all).members ≡ members_from number items ++ more)
+begins_good {A} {State} format input state number items all n say = (
+  (good_after format input (state_behind format state items) (drop (length items) all)).members,
+  ap (λ (g : Good A). g.members) (sym (good_said format input number state all items n say)),
+)
 
-begins_none : {A : Type 0} (good : Option (Good A)) (number : ℕ) (items : List A) → items ≡ [] → IfSome good (λ good. (rest : List (Member A)) × (good.members ≡ members_from number items ++ rest))
-begins_none None number items none = tt
-begins_none {A} (Some good) number items none = (good.members, ap (λ (l : List A). members_from number l ++ good.members) (sym none))
+begins_none : {A : Type 0} (good : Good A) (number : ℕ) (items : List A) → items ≡ [] → (more : List (Member A)) × (good.members ≡ members_from number items ++ more)
+begins_none {A} good number items none = (good.members, ap (λ (l : List A). members_from number l ++ good.members) (sym none))
 
 cond_left : (b : Bool) (run more : List Feature) → b ≡ is_some_left more → run ≡ more → (if b then run else []) ≡ more
 cond_left b run more e same = grind arith
@@ -154,20 +139,21 @@ module _ {S Q : Type 0} {device : Source S} {sorting : Sorting} {old : SortedRea
   state_then : last_in lookahead ≡ state_behind (bed_format sorting) (last_in old.lookahead) taken
   state_then = grind (arith, (place_behind sorting (last_in old.lookahead) (name_in old.lookahead) (start_in old.lookahead) (lines_buffered old.reader) parts.0 parts.1 rest was.1))
 
-  good_then : option_map (with_members (members_from (suc (lines_given old.reader)) taken)) (good_coming device.left now) ≡ good_coming device.left (view_in sorting old)
-  unfolding good_coming view_with
-  good_then =
+  drops : (more : List ℕ) → MayStillCome reader more → lines_coming more reader ≡ drop n (lines_coming more old.reader)
+  drops more follows = takes.left_is more follows ∙ ap (λ k. drop k (lines_coming more old.reader)) is.lines.feeds
+
+  good_then : (more : List ℕ) → MayStillCome reader more → coming more (view_in sorting old) ≡ with_members (members_from (suc (lines_given old.reader)) taken) (coming more now)
+  unfolding coming view_with
+  good_then more follows =
       let format = bed_format sorting in
       let state = last_in old.lookahead in
-      let drops : DropsLines (lines_left device.left old.reader) (length taken) (lines_left device.left reader) = subst (λ k. DropsLines (lines_left device.left old.reader) k (lines_left device.left reader)) (is.lines.feeds ∙ count_is) (taken_left device old.reader reader consumed.lines takes) in
-      rw (ap (or_else (option_map fault_value old.fault)) takes.fault_is ∙ none_kept, none_kept, state_then, takes.input_is)
-      (taken_good format (input_of old.reader) state (suc (lines_given old.reader)) taken (lines_left device.left old.reader) (lines_left device.left reader) (left_numbered device old.reader)
-      (say_all format state (lines_buffered old.reader) taken (lines_left device.left old.reader) (is_prefix device.left old.reader) say_those) (still_unknown device.left old.reader reader takes.source_is) drops)
+      let say = say_front format state (lines_buffered old.reader) (lines_coming more old.reader) taken (prefix_of old.reader more (λ told. follows (takes.told_is ∙ told))) say_those in
+      let gone : lines_coming more reader ≡ drop (length taken) (lines_coming more old.reader) = drops more follows ∙ ap (λ k. drop k (lines_coming more old.reader)) count_is in
+      rw (ap (or_else (option_map fault_value old.fault)) takes.fault_is ∙ none_kept, none_kept, state_then, takes.input_is, gone)
+      (sym (good_said format (input_of old.reader) (suc (lines_given old.reader)) state (lines_coming more old.reader) taken (numbered_coming old.reader more) say))
 
-  lines_then : LinesPass device.left old.reader reader
-  lines_then =
-      drops_pass (lines_left device.left old.reader) (lines_left device.left reader) (line_feeds (take consumed.lines.bytes (buffered_bytes old.reader))) (lines_given reader - lines_given old.reader)
-      (taken_left device old.reader reader consumed.lines takes) (omega (arith, takes.given, is.lines.given, is.lines.feeds))
+  lines_then : LinesPass old.reader [] reader
+  lines_then more follows = let counted : lines_given reader - lines_given old.reader ≡ n = omega (arith, takes.given, is.lines.given) in rw counted (drops more follows)
 
   pub sorted_takes : Takes device (view_in sorting old) taken now
   unfolding view_with
@@ -187,10 +173,10 @@ module _ {S Q : Type 0} {device : Source S} {sorting : Sorting} {old : SortedRea
   was_ahead = was.0
 
 -- the records that are buffered are the first of those still to come
-module _ {S Q : Type 0} (device : Source S) (sorting : Sorting) (sorted : SortedReader S Q) (placed : IsPlaced sorting (view_in sorting sorted)) where
-  some_comes : (r : Feature) (more : List Feature) → buffered_in sorted ≡ r ∷ more → BeginsComing device.left (view_in sorting sorted)
-  unfolding good_coming view_with buffered_in
-  some_comes r more e =
+module _ {S Q : Type 0} (sorting : Sorting) (sorted : SortedReader S Q) (placed : IsPlaced sorting (view_in sorting sorted)) where
+  some_comes : (r : Feature) (more : List Feature) → buffered_in sorted ≡ r ∷ more → BeginsComing (view_in sorting sorted)
+  unfolding coming view_with buffered_in
+  some_comes r more e rest follows =
       let format = bed_format sorting in
       let reader = sorted.reader in
       let state = last_in sorted.lookahead in
@@ -198,17 +184,17 @@ module _ {S Q : Type 0} (device : Source S) (sorting : Sorting) (sorted : Sorted
       let is : run_of (name_in sorted.lookahead) (start_in sorted.lookahead) (lines_buffered reader) ≡ buffered_in sorted = run.1 ∙ sym e in
       let said = order_is_said sorting state (name_in sorted.lookahead) (start_in sorted.lookahead) (lines_buffered reader) (buffered_in sorted) is placed.in_order in
       let say = run_says sorting state (name_in sorted.lookahead) (start_in sorted.lookahead) (lines_buffered reader) (buffered_in sorted) is said in
-      let all = say_all format state (lines_buffered reader) (buffered_in sorted) (lines_left device.left reader) (is_prefix device.left reader) say in
-      subst (λ own. IfSome (option_map (good_behind format (input_of reader) own state) (lines_left device.left reader))
-      (λ good. (rest : List (Member Feature)) × (good.members ≡ members_from (suc (lines_given reader)) (buffered_in sorted) ++ rest)))
+      let all = say_front format state (lines_buffered reader) (lines_coming rest reader) (buffered_in sorted) (prefix_of reader rest follows) say in
+      subst (λ own. (more : List (Member Feature)) × ((good_behind format (input_of reader) own state (lines_coming rest reader)).members ≡ members_from (suc (lines_given reader)) (buffered_in sorted) ++ more))
       (sym (placed.going (ap is_some_left e)))
-      (begins_good format (input_of reader) state (suc (lines_given reader)) (buffered_in sorted) (lines_left device.left reader) (left_numbered device reader) all)
+      (begins_good format (input_of reader) state (suc (lines_given reader)) (buffered_in sorted) (lines_coming rest reader) (numbered_coming reader rest) all)
 
-  comes_by : (items : List Feature) → buffered_in sorted ≡ items → BeginsComing device.left (view_in sorting sorted)
+  comes_by : (items : List Feature) → buffered_in sorted ≡ items → BeginsComing (view_in sorting sorted)
   unfolding view_with
-  comes_by items e = grind (arith, begins_none, some_comes)
+  comes_by [] e rest follows = begins_none (coming rest (view_in sorting sorted)) (suc (lines_given sorted.reader)) (buffered_in sorted) e
+  comes_by (r ∷ more) e rest follows = some_comes r more e rest follows
 
-  pub sorted_comes : BeginsComing device.left (view_in sorting sorted)
+  pub sorted_comes : BeginsComing (view_in sorting sorted)
   sorted_comes = comes_by (buffered_in sorted) refl
 
 -- a line that says a record which fits begins the records that are buffered then
@@ -352,8 +338,9 @@ module _ {S Q : Type 0} (device : Source S) (sorting : Sorting) where
           absurd (let other = ap (λ (f : FaultValue). f.place) (sym wrong.is ∙ is) in cc)
       | inr unkept ↦
           record {
+            bytes = (g.passed.bytes.0 ++ (came loses.takes).bytes.0, hands_both device old.below now new.reader g.passed.bytes.0 (came loses.takes).bytes.0 g.passed.bytes.1 (came loses.takes).bytes.1);
             r = unkept.item;
-            first = given_first device old (view_with sorting None now mid.lookahead []) new.reader line unkept.item g (came loses.takes) unkept.says;
+            first = given_first device old (view_with sorting None now mid.lookahead []) (view_with sorting (Some fault) new.reader new.lookahead []) line g (came loses.takes) unkept.item unkept.says;
             said = rw (← g.format, ← g.state) (line, unkept.says);
             elsewhere = rw (← g.state) (rw unkept.says at loses.elsewhere);
           }
@@ -443,6 +430,9 @@ module _ {S Q : Type 0} (sorted : SortedReader S Q) (some : sorted.is_ahead ≡ 
     unfolding view_with
     said_first = order_is_said sorting (last_in sorted.lookahead) (name_in sorted.lookahead) (start_in sorted.lookahead) (lines_buffered sorted.reader) (ahead_parts.0 ∷ ahead_parts.1) run_is (ap (are_in_order sorting (last_in sorted.lookahead)) (sym ahead_parts.2) ∙ placed.in_order)
 
+    going_below : (own kept : Option FaultValue) → or_else own kept ≡ None → kept ≡ None
+    going_below own kept e = grind arith
+
     -- the record ahead is given again
     pub sorted_again : Fills device (view_in sorting sorted) (Ok true) (view_in sorting sorted)
     unfolding view_with
@@ -452,6 +442,7 @@ module _ {S Q : Type 0} (sorted : SortedReader S Q) (some : sorted.is_ahead ≡ 
           answers = (
             record { line = first_is.line.number; item = ahead_parts.0 },
             gives_again device (view_in sorting sorted) first_is.line first_is.more ahead_parts.0 ahead_parts.1 (placed.going (ap is_some_left ahead_parts.2))
+                (going_below (option_map fault_value sorted.fault) (line_fault sorted.reader) (placed.going (ap is_some_left ahead_parts.2)))
                 (next_bytes sorted.reader first_is.line first_is.more first_is.lines_are) first_is.lines_are (next_number sorted.reader first_is.line first_is.more first_is.lines_are) says ahead_parts.2,
           );
           kept = λ was. was;
@@ -460,15 +451,16 @@ module _ {S Q : Type 0} (sorted : SortedReader S Q) (some : sorted.is_ahead ≡ 
 -- a fault is returned again
 fails_again : {S A State : Type 0} (device : Source S) (reader : MemberReader S A State) (fault : FaultValue) → reader.fault ≡ Some fault → reader.buffered ≡ [] → AnswersFault device reader fault reader
 fails_again device reader fault is none = record {
+  stays = record { bytes = ([], hands_none device reader.below); format = refl };
   kept = is;
   was_none = none;
   none_buffered = none;
   state = refl;
   again = λ before e. let same : Some fault ≡ Some before = sym is ∙ e in (cc, refl);
   first = λ going. let other : ◌≡◌ {A = Option FaultValue} (Some fault) None = sym is ∙ going in cc;
-  stays = record { bytes = ([], hands_none device reader.below); format = refl };
+  below_went = λ going. let other : ◌≡◌ {A = Option FaultValue} (Some fault) None = sym is ∙ going in cc;
   rises = omega arith;
-  lines = search rules;
+  lines = λ none. none_pass reader.below reader.below [] (λ rest. refl) refl;
   near = λ going. let other : ◌≡◌ {A = Option FaultValue} (Some fault) None = sym is ∙ going in cc;
 }
 

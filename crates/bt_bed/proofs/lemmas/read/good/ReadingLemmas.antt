@@ -1,51 +1,78 @@
 -- Lemmas on lines that a reader of records takes one after another.
-use Rattle.bt_lines.proofs.Std.{◌≡◌, ℕ, suc, ◌+◌, ◌-◌, ◌^◌, ◌<◌, ◌≤◌, List, [], ◌∷◌, ◌++◌, length, take, drop, Option, Some, None, sym, ap, ◌∙◌, arith, false, length-append, IfSome, option_map, take-append-add, drop-drop, true, Ok, Err, refl, inl, inr, ◌⊎◌, Result, add-zero}
+use Rattle.bt_lines.proofs.Std.{◌≡◌, ℕ, suc, ◌+◌, ◌-◌, ◌^◌, ◌<◌, ◌≤◌, List, [], ◌∷◌, ◌++◌, length, take, drop, Option, Some, None, sym, ap, ◌∙◌, arith, false, false≢true, is_some, append_assoc, append-nil, length-append, take-append-add, drop-drop, true, Ok, Err, refl, inl, inr, ◌⊎◌, Result, add-zero}
 use Rattle.bt_lines.specs.declared.device.Source.{Ghosts as Source}
-use Rattle.bt_lines.proofs.lemmas.reader.lines.LeftLemmas.{is_prefix, made_left, none_comes, none_left, taken_left}
-use Rattle.bt_lines.proofs.lemmas.reader.lines.TakingLemmas.{near_next, not_told, next_below, given_below}
+use Rattle.bt_lines.proofs.lemmas.reader.lines.LeftLemmas.{made_coming, none_came, none_comes}
+use Rattle.bt_lines.proofs.lemmas.reader.lines.TakingLemmas.{near_next, not_told, next_below, given_below, prefix_of}
 use Rattle.bt_lines.proofs.lemmas.reader.lines.TextLemmas.{line_feeds-append, lines_are_numbered}
 use Rattle.bt_lines.specs.model.Fault.{FaultValue, read_failed}
 use Rattle.bt_lines.specs.calls.Faults.{no_memory}
-use Rattle.bt_lines.specs.calls.Line.{GivesFirst, AreNumbered, line_feeds}
-use Rattle.bt_lines.specs.model.Lines.{TextLine, bytes_in}
+use Rattle.bt_lines.specs.calls.Line.{AreNumbered, line_feeds}
+use Rattle.bt_lines.specs.model.Lines.{TextLine}
 use Rattle.bt_lines.specs.calls.Output.{block_size}
-use Rattle.bt_lines.specs.calls.Reader.{CutsOff, DropsLines, GivesFault, Hands, IsKept, IsNear, MakesLine, TakenLines, TakesLines, buffered_bytes, buffered_in, bytes_taken, fault_kept, has_ended, held, input_of, lines_given, lines_left, room, source_of, FailsToRead, GivesEnd, end_told, room as line_room, fault_kept as line_fault}
+use Rattle.bt_lines.specs.calls.Reader.{CutsOff, GivesFault, Hands, IsKept, IsNear, MakesLine, MayStillCome, TakenLines, TakesLines, buffered_bytes, buffered_in, bytes_taken, fault_kept, has_ended, held, input_of, lines_coming, lines_given, room, source_of, FailsToRead, GivesEnd, end_told, room as line_room, fault_kept as line_fault}
 use Rattle.bt_lines.specs.declared.reader.buffered_lines.ConsumedLines.{ConsumedLines}
 use Rattle.bt_lines.specs.declared.reader.line_reader.LineReader.{LineReader}
-use Rattle.bt_bed.specs.calls.Reading.{LinesPass, IsBeyond, MemberReader, Remains, first_from, good_behind, good_coming, Stays, GivesMember, EndsMembers, LineIsWrong, RunsOut, Cause, AnswersFault, is_of_line, Takes, with_members}
+use Rattle.bt_bed.specs.calls.Reading.{LinesPass, IsBeyond, MemberReader, SaidNothing, ahead_in, coming, first_from, Stays, GivesMember, EndsMembers, LineIsWrong, RunsOut, Cause, AnswersFault, is_of_line, Takes}
 use Rattle.bt_lines.specs.declared.fault.Input.{Input}
 use Rattle.bt_lines.specs.declared.fault.Kind.{Kind}
 use Rattle.bt_bed.proofs.lemmas.read.good.SaidLemmas.{beyond_from}
 use Rattle.bt_bed.specs.model.Good.{with_member, Format, Good, Member, ends_with, good, good_after}
 use Rattle.bt_bed.specs.model.BedLine.{fault_at_line}
-use Rattle.bt_lines.proofs.lemmas.reader.block.ReadsLemmas.{hands_both, hands_none}
+use Rattle.bt_lines.proofs.lemmas.reader.block.ReadsLemmas.{comes_before, hands_both, hands_none}
 
-pub pass_more : (a b c : Option (List TextLine)) (i j k : ℕ) → IfSome a (λ all. b ≡ Some (drop i all)) → IfSome b (λ all. c ≡ Some (drop j all)) → k ≡ i + j → IfSome a (λ all. c ≡ Some (drop k all))
-pass_more a b c i j k p q e = grind (arith, drop-drop)
+-- Lines that come whatever follows, over two calls: `second` was handed over by the second one.
+module _ {S : Type 0} (device : Source S) (old now new : LineReader S) (first second : List ℕ) (hands : Hands device now second new) (passes : LinesPass old first now) where
+  abbrev passed : ℕ
+  passed = lines_given now - lines_given old
 
-pub near_pass : (a b : Option (List TextLine)) (rest : Option (List ℕ)) (i j k : ℕ) → IfSome a (λ all. b ≡ Some (drop i all)) → k ≡ i + j
-    → IfSome b (λ all. IfSome rest (λ bytes. bytes_in (drop j all) ≤ length bytes + block_size))
-    → IfSome a (λ all. IfSome rest (λ bytes. bytes_in (drop k all) ≤ length bytes + block_size))
-near_pass a b rest i j k p e q = grind (arith, drop-drop)
+  abbrev before : List ℕ → List TextLine
+  before rest = lines_coming ((first ++ second) ++ rest) old
+
+  old_lines : (rest : List ℕ) → MayStillCome new rest → drop passed (before rest) ≡ lines_coming (second ++ rest) now
+  old_lines rest follows = ap (λ l. drop passed (lines_coming l old)) (append_assoc first second rest) ∙ sym (passes (second ++ rest) (comes_before device hands rest follows))
+
+  further : (count more : ℕ) (rest : List ℕ) → MayStillCome new rest → passed + count ≡ more → drop more (before rest) ≡ drop count (lines_coming (second ++ rest) now)
+  further count more rest follows e = ap (λ k. drop k (before rest)) (sym e) ∙ sym (drop-drop count passed (before rest)) ∙ ap (drop count) (old_lines rest follows)
+
+  pub pass_more : LinesPass now second new → lines_given old ≤ lines_given now → lines_given now ≤ lines_given new → LinesPass old (first ++ second) new
+  pass_more more low high rest follows = more rest follows ∙ sym (further (lines_given new - lines_given now) (lines_given new - lines_given old) rest follows (omega (arith, low, high)))
+
+  pub near_pass : IsNear now second new → lines_given old ≤ lines_given now → lines_given now ≤ suc (lines_given new) → IsNear old (first ++ second) new
+  near_pass near low high rest follows =
+      rw (further (suc (lines_given new) - lines_given now) (suc (lines_given new) - lines_given old) rest follows (omega (arith, low, high))) (near rest follows)
 
 -- the first n bytes of two texts, if the first text has at most n
 pub front_of_both : (first second : List ℕ) (n m : ℕ) → n ≡ length first + m → take n (first ++ second) ≡ first ++ take m second
 front_of_both first second n m e = rw e (take-append-add first second m)
 
-pub drops_pass : (a b : Option (List TextLine)) (count k : ℕ) → DropsLines a count b → k ≡ count → IfSome a (λ all. b ≡ Some (drop k all))
-drops_pass a b count k d e = grind arith
+module _ {S : Type 0} (old new : LineReader S) (bytes : List ℕ) where
+  -- no line was given
+  pub none_pass : ((rest : List ℕ) → lines_coming (bytes ++ rest) old ≡ lines_coming rest new) → lines_given new ≡ lines_given old → LinesPass old bytes new
+  none_pass same counted rest follows = let none : lines_given new - lines_given old ≡ 0 = omega (arith, counted) in rw none (sym (same rest))
 
-made_drops : (a b : Option (List TextLine)) (k : ℕ) → k ≡ 0 → DropsLines a 0 b → IfSome a (λ all. b ≡ Some (drop k all))
-made_drops a b k none d = grind arith
+  -- one was
+  pub one_passes : (line : TextLine) → ((rest : List ℕ) → MayStillCome new rest → lines_coming (bytes ++ rest) old ≡ line ∷ lines_coming rest new) → lines_given new ≡ suc (lines_given old) → LinesPass old bytes new
+  one_passes line first counted rest follows = let one : lines_given new - lines_given old ≡ 1 = omega (arith, counted) in rw (one, first rest follows) refl
 
-first_by : (a b c : Option (List TextLine)) (line : TextLine) (more buffered : List TextLine) (count : ℕ) → DropsLines a 0 b → IfSome b (λ all. take (length buffered) all ≡ buffered) → buffered ≡ line ∷ more → DropsLines b count c → count ≡ 1
-    → GivesFirst a line c
-first_by a b c line more buffered count s p is d one = grind arith
+  -- what follows the lines given and one more is still to come
+  pub near_after : LinesPass old bytes new → lines_given old ≤ lines_given new → IsNear old bytes new
+  near_after passes low rest follows =
+      let more : suc (lines_given new) - lines_given old ≡ (lines_given new - lines_given old) + 1 = omega (arith, low) in
+      rw (more, ← drop-drop 1 (lines_given new - lines_given old) (lines_coming (bytes ++ rest) old), ← passes rest follows) (near_next new rest follows)
+
+first_of : (all buffered more : List TextLine) (line : TextLine) → take (length buffered) all ≡ buffered → buffered ≡ line ∷ more → (rest : List TextLine) × (all ≡ line ∷ rest)
+first_of all buffered more line p is = grind arith
+
+-- a reader's next line, if one is buffered, comes first
+pub next_comes : {S : Type 0} (reader : LineReader S) (line : TextLine) (more : List TextLine) → buffered_in reader ≡ line ∷ more → (rest : List ℕ) → MayStillCome reader rest → lines_coming rest reader ≡ line ∷ drop 1 (lines_coming rest reader)
+next_comes reader line more is rest follows =
+    let first = first_of (lines_coming rest reader) (buffered_in reader) more line (prefix_of reader rest follows) is in
+    first.1 ∙ ap (λ l. line ∷ l) (sym (ap (λ (l : List TextLine). drop 1 l) first.1))
 
 -- the reader's next line was made buffered, and taken
 pub record LineCame {S : Type 0} (device : Source S) (old : LineReader S) (line : TextLine) (new : LineReader S) : Type 0 where
-  pub first : GivesFirst (lines_left device.left old) line (lines_left device.left new)
   pub bytes : (bytes : List ℕ) × Hands device old bytes new
+  pub first : (rest : List ℕ) → MayStillCome new rest → lines_coming (bytes.0 ++ rest) old ≡ line ∷ lines_coming rest new
   pub number : line.number ≡ suc (lines_given old)
   pub counted : lines_given new ≡ suc (lines_given old)
   pub below : lines_given new < 2 ^ 63
@@ -64,10 +91,18 @@ module _ {S : Type 0} (device : Source S) (old mid new : LineReader S) (makes : 
   same_room = grind (arith, length-append)
 
   module _ (line : TextLine) (more : List TextLine) (first : buffered_in mid ≡ line ∷ more) (number : line.number ≡ suc (lines_given mid)) (consumed : ConsumedLines) (are : TakenLines mid consumed 1) (takes : TakesLines device mid consumed new) where
+    taken_rest : (rest : List ℕ) → MayStillCome new rest → lines_coming rest new ≡ drop 1 (lines_coming rest mid)
+    taken_rest rest follows = takes.left_is rest follows ∙ ap (λ k. drop k (lines_coming rest mid)) are.feeds
+
+    first_then : (rest : List ℕ) → MayStillCome new rest → lines_coming ((makes.bytes.0 ++ []) ++ rest) old ≡ line ∷ lines_coming rest new
+    first_then rest follows =
+        ap (λ l. lines_coming l old) (append_assoc makes.bytes.0 [] rest) ∙ made_coming device old mid makes rest
+        ∙ next_comes mid line more first rest (λ told. follows (takes.told_is ∙ told)) ∙ ap (λ l. line ∷ l) (sym (taken_rest rest follows))
+
     pub line_came : LineCame device old line new
     line_came = record {
-      first = first_by (lines_left device.left old) (lines_left device.left mid) (lines_left device.left new) line more (buffered_in mid) (line_feeds (take consumed.bytes (buffered_bytes mid))) (made_left device old mid makes) (is_prefix device.left mid) first (taken_left device mid new consumed takes) are.feeds;
       bytes = (makes.bytes.0 ++ [], hands_both device old mid new makes.bytes.0 [] makes.bytes.1 takes.hands);
+      first = first_then;
       number = number ∙ ap suc makes.counted;
       counted = omega (arith, takes.given, are.given, makes.counted);
       below = takes.below;
@@ -81,47 +116,35 @@ module _ {S : Type 0} (device : Source S) (old mid new : LineReader S) (makes : 
 module _ {S : Type 0} (device : Source S) where
   -- lines came, in some calls one after another
   pub record Came (old now : LineReader S) : Type 0 where
-    pub lines : LinesPass device.left old now
-    pub least : lines_given old ≤ lines_given now
     pub bytes : (bytes : List ℕ) × Hands device old bytes now
+    pub lines : LinesPass old bytes.0 now
+    pub least : lines_given old ≤ lines_given now
     pub kept : IsKept device old → IsKept device now
 
-  pub came_none : (reader : LineReader S) → Came reader reader
-  came_none reader = record { lines = grind arith; least = omega arith; bytes = ([], hands_none device reader); kept = λ h. h }
-
-  -- the lines that are left are numbered on from those given
-  pub left_numbered : (reader : LineReader S) → IfSome (lines_left device.left reader) (AreNumbered (suc (lines_given reader)))
-  left_numbered reader = grind (arith, lines_are_numbered)
-
-  -- of known bytes, those after one more line are left
-  pub near_came : (old new : LineReader S) → Came old new → IsNear device.left old new
-  near_came old new q =
-      near_pass (lines_left device.left old) (lines_left device.left new) (device.left (source_of new)) (lines_given new - lines_given old) 1 (suc (lines_given new) - lines_given old) q.lines (omega (arith, q.least)) (near_next device.left new)
+  abbrev pub came_none : (reader : LineReader S) → Came reader reader
+  came_none reader = record { bytes = ([], hands_none device reader); lines = none_pass reader reader [] (λ rest. refl) refl; least = omega arith; kept = λ h. h }
 
   module _ (old now new : LineReader S) (p : Came old now) where
-    pub came_line : (line : TextLine) → LineCame device now line new → (IsKept device now → IsKept device new) → Came old new
+    abbrev pub came_line : (line : TextLine) → LineCame device now line new → (IsKept device now → IsKept device new) → Came old new
     came_line line came kept = record {
-      lines = pass_more (lines_left device.left old) (lines_left device.left now) (lines_left device.left new) (lines_given now - lines_given old) 1 (lines_given new - lines_given old) p.lines (grind arith) (omega (arith, came.counted, p.least));
-      least = omega (arith, came.counted, p.least);
       bytes = (p.bytes.0 ++ came.bytes.0, hands_both device old now new p.bytes.0 came.bytes.0 p.bytes.1 came.bytes.1);
+      lines = pass_more device old now new p.bytes.0 came.bytes.0 came.bytes.1 p.lines (one_passes now new came.bytes.0 line came.first came.counted) p.least (omega (arith, came.counted));
+      least = omega (arith, came.counted, p.least);
       kept = λ was. kept (p.kept was);
     }
 
     -- a line was made buffered
-    pub came_made : MakesLine device now new → (IsKept device now → IsKept device new) → Came old new
+    abbrev pub came_made : MakesLine device now new → (IsKept device now → IsKept device new) → Came old new
     came_made makes kept = record {
-      lines = pass_more (lines_left device.left old) (lines_left device.left now) (lines_left device.left new) (lines_given now - lines_given old) (lines_given new - lines_given now) (lines_given new - lines_given old) p.lines
-          (made_drops (lines_left device.left now) (lines_left device.left new) (lines_given new - lines_given now) (omega (arith, makes.counted)) (made_left device now new makes)) (omega (arith, makes.counted, p.least));
-      least = omega (arith, makes.counted, p.least);
       bytes = (p.bytes.0 ++ makes.bytes.0, hands_both device old now new p.bytes.0 makes.bytes.0 p.bytes.1 makes.bytes.1);
+      lines = pass_more device old now new p.bytes.0 makes.bytes.0 makes.bytes.1 p.lines (none_pass now new makes.bytes.0 (made_coming device now new makes) makes.counted) p.least (omega (arith, makes.counted));
+      least = omega (arith, makes.counted, p.least);
       kept = λ was. kept (p.kept was);
     }
 
-    -- a line couldn't be read: of known bytes, those after it are left
-    pub near_fault : (fault : FaultValue) → GivesFault device now fault new → fault_kept now ≡ None → IsNear device.left old new
-    near_fault fault gives going =
-        near_pass (lines_left device.left old) (lines_left device.left now) (device.left (source_of new)) (lines_given now - lines_given old) (suc (lines_given new) - lines_given now) (suc (lines_given new) - lines_given old) p.lines
-        (omega (arith, gives.counted, p.least)) (gives.near going)
+    -- a line couldn't be read: what follows it is still to come
+    pub near_fault : (fault : FaultValue) (gives : GivesFault device now fault new) → fault_kept now ≡ None → IsNear old (p.bytes.0 ++ gives.bytes.0) new
+    near_fault fault gives going = near_pass device old now new p.bytes.0 gives.bytes.0 gives.bytes.1 p.lines (gives.near going) p.least (omega (arith, gives.counted))
 
     -- the line feeds among the bytes taken all end lines that were given
     pub cut_fault : (fault : FaultValue) → GivesFault device now fault new → fault_kept now ≡ None → fault ≡ read_failed (input_of now) (suc (lines_given now)) → IsKept device old → CutsOff device old new
@@ -131,16 +154,15 @@ module _ {S : Type 0} (device : Source S) where
         let front = front_of_both p.bytes.0 cut.bytes (2 ^ 63 - 1 - bytes_taken old) (2 ^ 63 - 1 - bytes_taken now) (omega arith) in
         grind (arith, (hands_both device old now new p.bytes.0 cut.bytes p.bytes.1 cut.hands), (line_feeds-append p.bytes.0 (take (2 ^ 63 - 1 - bytes_taken now) cut.bytes)))
 
+-- the lines that come are numbered on from those given
+pub numbered_coming : {S : Type 0} (reader : LineReader S) (rest : List ℕ) → AreNumbered (suc (lines_given reader)) (lines_coming rest reader)
+unfolding lines_coming
+numbered_coming reader rest = lines_are_numbered (suc (lines_given reader)) (held reader ++ rest)
+
 -- Lemmas on a step of a reader of members, whatever the lines say.
 
-remains_further : {A : Type 0} (a b c : Option (Good A)) → Remains a b → Remains b c → Remains a c
-remains_further a b c p q = grind arith
-
-remains_if : {A : Type 0} (a b : Option (Good A)) (P : Good A → Type 0) → Remains a b → IfSome b P → IfSome a P
-remains_if a b P r h = grind arith
-
 module _ {A State : Type 0} (format : Format A State) (input : Input) (state : State) where
-  said_none : (line : TextLine) (lines : List TextLine) → format.says state line ≡ Ok None → good_after format input state lines ≡ good_after format input state (line ∷ lines)
+  said_none : (line : TextLine) (lines : List TextLine) → format.says state line ≡ Ok None → good_after format input state (line ∷ lines) ≡ good_after format input state lines
   unfolding good_after
   said_none line lines e = rw e refl
 
@@ -149,51 +171,32 @@ module _ {A State : Type 0} (format : Format A State) (input : Input) (state : S
   unfolding good_after
   said_some line lines item e = rw e refl
 
-  -- after a line that says nothing what was to come still comes
-  good_line : (line : TextLine) (a b : Option (List TextLine)) → GivesFirst a line b → format.says state line ≡ Ok None
-      → Remains (option_map (good_behind format input None state) a) (option_map (good_behind format input None state) b)
-  good_line line a b g e = grind (arith, said_none)
-
-  -- the member that a line says comes first
-  good_first : (line : TextLine) (item : A) (a : Option (List TextLine)) → IfSome a (λ lines. (rest : List TextLine) × (lines ≡ line ∷ rest)) → format.says state line ≡ Ok (Some item)
-      → IfSome (option_map (good_behind format input None state) a) (λ good. (rest : List (Member A)) × (good.members ≡ record { line = line.number; item = item } ∷ rest))
-  good_first line item None h e = tt
-  good_first line item (Some lines) h e =
-      ((good_after format input (format.after state item) h.0).members, ap (λ l. (good_after format input state l).members) h.1 ∙ ap (λ g. g.members) (said_some line h.0 item e))
-
   wrong_good : (line : TextLine) (lines : List TextLine) (kind : Kind) → format.says state line ≡ Err kind
       → good_after format input state (line ∷ lines) ≡ ends_with (Some (fault_at_line input line.number kind))
   unfolding good_after
   wrong_good line lines kind e = rw e refl
 
-  -- a line at fault is all that was to come
-  good_fault : (line : TextLine) (a b : Option (List TextLine)) (kind : Kind) → GivesFirst a line b → format.says state line ≡ Err kind
-      → IfSome (option_map (good_behind format input None state) a) (λ good. good ≡ ends_with (Some (fault_at_line input line.number kind)))
-  good_fault line a b kind g e = grind (arith, wrong_good)
-
-  -- if no line is left, no member is
-  good_end : (a : Option (List TextLine)) → IfSome a (λ lines. lines ≡ [])
-      → IfSome (option_map (good_behind format input None state) a) (λ good. good ≡ ends_with None)
+  good_none : good_after format input state [] ≡ ends_with None
   unfolding good_after
-  good_end a h = grind arith
+  good_none = refl
 
 buffered_below : {S : Type 0} (reader : LineReader S) → 0 < length (buffered_bytes reader) → suc (lines_given reader) < 2 ^ 63
 unfolding buffered_bytes
 buffered_below reader some = next_below reader some
 
-beyond_lines : {A State : Type 0} (format : Format A State) (input : Input) (state : State) (count : ℕ) (lines : Option (List TextLine)) → IfSome lines (AreNumbered (suc count)) → IfSome (option_map (good_behind format input None state) lines) (IsBeyond count)
-beyond_lines format input state count lines n = grind (arith, beyond_from)
-
-same_good : {A : Type 0} (good : Option (Good A)) → option_map (with_members []) good ≡ good
-same_good None = refl
-same_good (Some good) = refl
-
 module _ {S A State : Type 0} (device : Source S) where
-  -- what is still to come, without a fault
-  pub good_is : (reader : MemberReader S A State) → reader.fault ≡ None
-      → good_coming device.left reader ≡ option_map (good_behind reader.format (input_of reader.below) None reader.state) (lines_left device.left reader.below)
-  unfolding good_coming
-  good_is reader going = rw going refl
+  -- what comes, without a fault
+  pub good_is : (reader : MemberReader S A State) → reader.fault ≡ None → (rest : List ℕ) → coming rest reader ≡ good_after reader.format (input_of reader.below) reader.state (lines_coming rest reader.below)
+  unfolding coming
+  good_is reader going rest = rw going refl
+
+  -- the member of the first line comes first
+  good_first : (reader : MemberReader S A State) → reader.fault ≡ None → (rest : List ℕ) (line : TextLine) (lines : List TextLine) (item : A) → lines_coming rest reader.below ≡ line ∷ lines → reader.format.says reader.state line ≡ Ok (Some item)
+      → (more : List (Member A)) × ((coming rest reader).members ≡ record { line = line.number; item = item } ∷ more)
+  good_first reader going rest line lines item first says = (
+    (good_after reader.format (input_of reader.below) (reader.format.after reader.state item) lines).members,
+    ap (λ g. g.members) (good_is reader going rest ∙ ap (good_after reader.format (input_of reader.below) reader.state) first ∙ said_some reader.format (input_of reader.below) reader.state line lines item says),
+  )
 
   -- lines were read from the reader
   pub record Begun (old : MemberReader S A State) : Type 0 where
@@ -202,15 +205,16 @@ module _ {S A State : Type 0} (device : Source S) where
 
   -- how far a step is: no member has come yet, and no fault but one of the reader of lines
   pub record Going (old now : MemberReader S A State) : Type 0 where
-    pub good : Remains (good_coming device.left old) (good_coming device.left now)
+    pub passed : Came device old.below now.below
+    pub good : (rest : List ℕ) → MayStillCome now.below rest → coming (passed.bytes.0 ++ rest) old ≡ coming rest now
     pub was_none : old.buffered ≡ []
     pub none_buffered : now.buffered ≡ []
     pub begun : (now ≡ old) ⊎ Begun old
+    pub began : old.fault ≡ line_fault old.below
     pub rest : now.fault ≡ line_fault now.below
     pub going : old.fault ≡ None → now.fault ≡ None
     pub state : now.state ≡ old.state
     pub format : now.format ≡ old.format
-    pub passed : Came device old.below now.below
     pub served : device.has_failed (source_of now.below) ≡ device.has_failed (source_of old.below)
     pub shrinks : line_room now.below ≤ line_room old.below
 
@@ -219,14 +223,20 @@ module _ {S A State : Type 0} (device : Source S) where
     pub state : new.state ≡ now.state
     pub format : new.format ≡ now.format
 
+  -- what comes then
+  good_then : (now new : MemberReader S A State) → Follows now new → input_of new.below ≡ input_of now.below → new.fault ≡ None → (rest : List ℕ)
+      → good_after now.format (input_of now.below) now.state (lines_coming rest new.below) ≡ coming rest new
+  good_then now new follows input going rest = sym (good_is new going rest ∙ (rw (follows.format, follows.state, input) refl))
+
   -- no member was taken
   pub takes_none : (reader : MemberReader S A State) → Takes device reader [] reader
   takes_none reader = record {
     buffered = refl;
     said = tt;
     state = refl;
-    good = same_good (good_coming device.left reader);
+    good = λ rest follows. refl;
     goes = refl;
+    below_stays = refl;
     format = refl;
     given = sym (add-zero (lines_given reader.below));
     below = given_below reader.below;
@@ -241,133 +251,223 @@ module _ {S A State : Type 0} (device : Source S) where
   module _ (old : MemberReader S A State) where
     pub going_start : old.buffered ≡ [] → old.fault ≡ line_fault old.below → Going old old
     going_start none rest = record {
-      good = grind arith;
+      passed = came_none device old.below;
+      good = λ rest follows. refl;
       was_none = none;
       none_buffered = none;
       begun = inl refl;
+      began = rest;
       rest = rest;
       going = λ e. e;
       state = refl;
       format = refl;
-      passed = came_none device old.below;
       served = refl;
       shrinks = omega arith;
     }
 
-    more_bytes : (now : MemberReader S A State) (reader : LineReader S) → Going old now → (bytes : List ℕ) × Hands device now.below bytes reader → (bytes : List ℕ) × Hands device old.below bytes reader
-    more_bytes now reader g more = (g.passed.bytes.0 ++ more.0, hands_both device old.below now.below reader g.passed.bytes.0 more.0 g.passed.bytes.1 more.1)
+    module _ (now new : MemberReader S A State) (g : Going old now) {bytes : List ℕ} (hands : Hands device now.below bytes new.below) where
+      -- what came before the step comes after it, behind the bytes of the call
+      coming_then : (rest : List ℕ) → MayStillCome new.below rest → coming ((g.passed.bytes.0 ++ bytes) ++ rest) old ≡ coming (bytes ++ rest) now
+      coming_then rest follows = ap (λ l. coming l old) (append_assoc g.passed.bytes.0 bytes rest) ∙ g.good (bytes ++ rest) (comes_before device hands rest follows)
 
-    stays_more : (now new : MemberReader S A State) → Going old now → (bytes : List ℕ) × Hands device now.below bytes new.below → Follows now new → Stays device old new
-    stays_more now new g more follows = record { bytes = more_bytes now new.below g more; format = follows.format ∙ g.format }
+    abbrev stays_more : (now new : MemberReader S A State) → Going old now → (bytes : List ℕ) × Hands device now.below bytes new.below → Follows now new → Stays device old new
+    stays_more now new g more follows = record {
+      bytes = (g.passed.bytes.0 ++ more.0, hands_both device old.below now.below new.below g.passed.bytes.0 more.0 g.passed.bytes.1 more.1);
+      format = follows.format ∙ g.format;
+    }
 
-    -- the lines consumed and the one given
-    passed_more : (now new : MemberReader S A State) (line : TextLine) → Going old now → LineCame device now.below line new.below → (IsKept device now.below → IsKept device new.below) → Came device old.below new.below
-    passed_more now new line g gives sound = came_line device old.below now.below new.below g.passed line gives sound
+    -- what comes lies after the lines given
+    beyond : (now : MemberReader S A State) (new : MemberReader S A State) (bytes : List ℕ) → Going old now → Hands device now.below bytes new.below → line_fault now.below ≡ None → lines_given new.below ≡ lines_given now.below → (rest : List ℕ) → MayStillCome new.below rest
+        → (g : Going old now) → IsBeyond (lines_given new.below) (coming ((g.passed.bytes.0 ++ bytes) ++ rest) old)
+    beyond now new bytes was hands going counted rest follows g =
+        let there : coming ((g.passed.bytes.0 ++ bytes) ++ rest) old ≡ good_after now.format (input_of now.below) now.state (lines_coming (bytes ++ rest) now.below) =
+        coming_then now new g hands rest follows ∙ good_is now (g.rest ∙ going) (bytes ++ rest) in
+        rw (there, counted) (beyond_from now.format (input_of now.below) (lines_given now.below) now.state (lines_coming (bytes ++ rest) now.below) (numbered_coming now.below (bytes ++ rest)))
 
-    -- what is still to come lies after the lines given
-    beyond : (now : MemberReader S A State) → Going old now → line_fault now.below ≡ None → IfSome (good_coming device.left old) (IsBeyond (lines_given now.below))
-    beyond now g going =
-        remains_if (good_coming device.left old) (good_coming device.left now) (IsBeyond (lines_given now.below)) g.good
-        (rw (good_is now (g.rest ∙ going)) (beyond_lines now.format (input_of now.below) now.state (lines_given now.below) (lines_left device.left now.below) (left_numbered device now.below)))
+    begun_then : (now : MemberReader S A State) → Going old now → line_fault now.below ≡ None → has_ended now.below ≡ false → Begun old
+    begun_then now g going open_ended =
+        elim g.begun [
+          | inl same ↦ record { was_going = ap (λ (r : MemberReader S A State). r.fault) (sym same) ∙ g.rest ∙ going; not_told = ap (λ (r : MemberReader S A State). has_ended r.below) (sym same) ∙ open_ended }
+          | inr begun ↦ begun
+        ]
 
     same_input : (now : MemberReader S A State) → Going old now → input_of now.below ≡ input_of old.below
     same_input now g = g.passed.bytes.1.same_input
 
-    -- what is to come, once a line said nothing
-    good_taken : (now new : MemberReader S A State) (line : TextLine) → Going old now → LineCame device now.below line new.below
-        → now.format.says now.state line ≡ Ok None → new.fault ≡ None → Follows now new → Remains (good_coming device.left old) (good_coming device.left new)
-    good_taken now new line g gives says none follows =
-        grind (arith, (good_line now.format (input_of now.below) now.state line (lines_left device.left now.below) (lines_left device.left new.below) gives.first says), good_is)
+    module _ (now new : MemberReader S A State) (line : TextLine) (g : Going old now) (gives : LineCame device now.below line new.below) where
+      going_now : now.fault ≡ None
+      going_now = g.rest ∙ gives.was_going.0
+
+      -- the lines consumed and the one given
+      abbrev passed_more : (IsKept device now.below → IsKept device new.below) → Came device old.below new.below
+      passed_more kept = came_line device old.below now.below new.below g.passed line gives kept
+
+      coming_line : (rest : List ℕ) → MayStillCome new.below rest
+          → coming ((g.passed.bytes.0 ++ gives.bytes.0) ++ rest) old ≡ good_after now.format (input_of now.below) now.state (line ∷ lines_coming rest new.below)
+      coming_line rest follows =
+          coming_then now new g gives.bytes.1 rest follows ∙ good_is now going_now (gives.bytes.0 ++ rest) ∙ ap (good_after now.format (input_of now.below) now.state) (gives.first rest follows)
+
+      -- the member of the last line given came first
+      pub given_first : (item : A) → now.format.says now.state line ≡ Ok (Some item) → (rest : List ℕ) → MayStillCome new.below rest
+          → (more : List (Member A)) × ((coming ((g.passed.bytes.0 ++ gives.bytes.0) ++ rest) old).members ≡ record { line = lines_given new.below; item = item } ∷ more)
+      given_first item says rest follows =
+          let at : line.number ≡ lines_given new.below = gives.number ∙ sym gives.counted in
+          let there = coming_line rest follows ∙ said_some now.format (input_of now.below) now.state line (lines_coming rest new.below) item says in (
+            (good_after now.format (input_of now.below) (now.format.after now.state item) (lines_coming rest new.below)).members,
+            ap (λ g. g.members) there ∙ ap (λ (n : ℕ). record { line = n; item = item } ∷ (good_after now.format (input_of now.below) (now.format.after now.state item) (lines_coming rest new.below)).members) at,
+          )
 
     -- a line said nothing
     pub going_more : (now new : MemberReader S A State) (line : TextLine) → Going old now → LineCame device now.below line new.below
         → (IsKept device now.below → IsKept device new.below) → now.format.says now.state line ≡ Ok None → new.buffered ≡ [] → new.fault ≡ line_fault new.below → Follows now new → Going old new
-    going_more now new line g gives sound says ahead rest follows =
-        grind (arith, (good_taken now new line g gives says (rest ∙ gives.goes) follows), (passed_more now new line g gives sound))
-
-    lines_first : (a b : Option (List TextLine)) (line : TextLine) (more buffered : List TextLine) → IfSome b (λ all. take (length buffered) all ≡ buffered) → buffered ≡ line ∷ more → IfSome b (λ lines. (rest : List TextLine) × (lines ≡ line ∷ rest))
-    lines_first a b line more buffered p is = grind arith
+    going_more now new line g gives kept says ahead rest follows =
+        let fine : new.fault ≡ None = rest ∙ gives.goes in
+        record {
+          passed = passed_more now new line g gives kept;
+          good = λ more still.
+              coming_line now new line g gives more still ∙ said_none now.format (input_of now.below) now.state line (lines_coming more new.below) says
+              ∙ good_then now new follows gives.bytes.1.same_input fine more;
+          was_none = g.was_none;
+          none_buffered = ahead;
+          begun = inr (begun_then now g gives.was_going.0 gives.was_going.1);
+          began = g.began;
+          rest = rest;
+          going = λ e. fine;
+          state = follows.state ∙ g.state;
+          format = follows.format ∙ g.format;
+          served = gives.served ∙ g.served;
+          shrinks = omega (arith, gives.shrinks, g.shrinks);
+        }
 
     -- a line was made buffered that says a member
     pub going_member : {now new : MemberReader S A State} {line : TextLine} {more : List TextLine} {item : A} {items : List A} → Going old now → MakesLine device now.below new.below
         → (IsKept device now.below → IsKept device new.below) → buffered_in new.below ≡ line ∷ more → line.number ≡ suc (lines_given new.below)
         → now.format.says now.state line ≡ Ok (Some item) → new.buffered ≡ item ∷ items → new.fault ≡ line_fault new.below → Follows now new
         → GivesMember device old (record { line = line.number; item = item }) new
-    going_member {now} {new} {line} {more} {item} g makes kept first number says buffered rest follows =
-        let good = remains_further (good_coming device.left old) (good_coming device.left now) (good_coming device.left new) g.good (grind (arith, good_is, (made_left device now.below new.below makes))) in
+    going_member {now} {new} {line} {more} {item} {items} g makes kept first number says buffered rest follows =
         let came = came_made device old.below now.below new.below g.passed makes kept in
-        let there : IfSome (good_coming device.left new) (λ good. (rest : List (Member A)) × (good.members ≡ (record { line = line.number; item = item }) ∷ rest)) =
-        rw (good_is new (rest ∙ makes.goes), follows.state, follows.format)
-        (good_first now.format (input_of new.below) now.state line item (lines_left device.left new.below) (lines_first (lines_left device.left now.below) (lines_left device.left new.below) line more (buffered_in new.below) (is_prefix device.left new.below) first) says) in
-        grind (arith, buffered_below, near_came, same_room)
+        let was_going : now.fault ≡ None = g.rest ∙ makes.was_going.0 in
+        let fine : new.fault ≡ None = rest ∙ makes.goes in
+        let good : (rest : List ℕ) → MayStillCome new.below rest → coming (came.bytes.0 ++ rest) old ≡ coming rest new = λ rest still.
+        coming_then now new g makes.bytes.1 rest still ∙ good_is now was_going (makes.bytes.0 ++ rest) ∙ ap (good_after now.format (input_of now.below) now.state) (made_coming device now.below new.below makes rest)
+        ∙ good_then now new follows makes.bytes.1.same_input fine rest in
+        let begun = begun_then now g makes.was_going.0 makes.was_going.1 in
+        let says_then : new.format.says new.state line ≡ Ok (Some item) = rw (follows.format, follows.state) says in
+        record {
+          stays = record { bytes = came.bytes; format = follows.format ∙ g.format };
+          ahead = ap (first_from (suc (lines_given new.below))) buffered ∙ ap (λ n. Some (record { line = n; item = item })) (sym number);
+          state = follows.state ∙ g.state;
+          good = good;
+          first = λ rest still.
+              let there = good_first new fine rest line (drop 1 (lines_coming rest new.below)) item (next_comes new.below line more first rest still) says_then in
+              (there.0, ap (λ g. g.members) (good rest still) ∙ there.1);
+          said = (line, rw (← g.format, ← g.state) says);
+          again = λ some. absurd (let none : ahead_in old ≡ None = ap (first_from (suc (lines_given old.below))) g.was_none in false≢true (sym (ap is_some none) ∙ some));
+          at = number;
+          rises = came.least;
+          below = omega (arith, number, buffered_below new.below makes.some);
+          served = makes.served ∙ g.served;
+          was_going = begun.was_going;
+          goes = fine ∙ sym begun.was_going;
+          below_goes = makes.goes;
+          lines = came.lines;
+          near = near_after old.below new.below came.bytes.0 came.lines came.least;
+          shrinks = omega (arith, same_room device now.below new.below new.below makes, g.shrinks);
+        }
 
-    -- a line is at fault
-    wrong_cause : (now new : MemberReader S A State) (line : TextLine) (fault : FaultValue) (kind : Kind) → Going old now → LineCame device now.below line new.below
-        → now.format.says now.state line ≡ Err kind → is_of_line kind ≡ true → fault ≡ fault_at_line (input_of old.below) line.number kind → LineIsWrong device old fault new
-    wrong_cause now new line fault kind g gives says of_line is =
-        let before = good_is now (g.rest ∙ gives.was_going.0) in
-        let none : IfSome (good_coming device.left now) (λ good. good ≡ ends_with (Some (fault_at_line (input_of now.below) line.number kind))) =
-        rw before (good_fault now.format (input_of now.below) now.state line (lines_left device.left now.below) (lines_left device.left new.below) kind gives.first says) in
-        grind arith
+    module _ {now new : MemberReader S A State} {line : TextLine} {fault : FaultValue} (g : Going old now) (gives : LineCame device now.below line new.below) where
+      -- a line is at fault
+      wrong_cause : (kind : Kind) → now.format.says now.state line ≡ Err kind → is_of_line kind ≡ true → fault ≡ fault_at_line (input_of old.below) line.number kind → LineIsWrong device old (g.passed.bytes.0 ++ gives.bytes.0) fault new
+      wrong_cause kind says of_line is =
+          let at : line.number ≡ lines_given new.below = gives.number ∙ sym gives.counted in
+          record {
+            none_left = λ rest follows.
+                coming_line now new line g gives rest follows ∙ wrong_good now.format (input_of now.below) now.state line (lines_coming rest new.below) kind says
+                ∙ ap (λ f. ends_with (Some f)) (ap (λ i. fault_at_line i line.number kind) (same_input now g) ∙ sym is);
+            kind = kind;
+            line = line;
+            says = rw (← g.format, ← g.state) says;
+            of_line = of_line;
+            place = is ∙ ap (λ n. fault_at_line (input_of old.below) n kind) at;
+            rises = omega (arith, gives.counted, g.passed.least);
+            going = gives.goes;
+            served = gives.served ∙ g.served;
+            near = gives.near;
+          }
 
-    -- the member of the last line given came first
-    pub given_first : (now : MemberReader S A State) (reader : LineReader S) (line : TextLine) (item : A) → Going old now → LineCame device now.below line reader → now.format.says now.state line ≡ Ok (Some item)
-        → IfSome (good_coming device.left old) (λ good. (rest : List (Member A)) × (good.members ≡ record { line = lines_given reader; item = item } ∷ rest))
-    given_first now reader line item g gives says =
-        let first = good_first now.format (input_of now.below) now.state line item (lines_left device.left now.below) (grind arith) says in
-        grind (arith, good_is)
+      -- a member that couldn't be kept was good
+      unkept_cause : (item : A) → now.format.says now.state line ≡ Ok (Some item) → fault ≡ no_memory → RunsOut device old (g.passed.bytes.0 ++ gives.bytes.0) fault new
+      unkept_cause item says is = record {
+        is = is;
+        checked = inr (record {
+          first = λ rest follows. (let there = given_first now new line g gives item says rest follows in (item, there.0, there.1));
+          rises = omega (arith, gives.counted, g.passed.least);
+          going = gives.goes;
+          near = gives.near;
+        });
+        served = gives.served ∙ g.served;
+      }
 
-    -- a member that couldn't be kept was good
-    unkept_cause : (now new : MemberReader S A State) (line : TextLine) (fault : FaultValue) (item : A) → Going old now → LineCame device now.below line new.below
-        → now.format.says now.state line ≡ Ok (Some item) → fault ≡ no_memory → RunsOut device old fault new
-    unkept_cause now new line fault item g gives says is =
-        let first = given_first now new.below line item g gives says in
-        grind arith
+      lost_by : new.fault ≡ Some fault → new.buffered ≡ [] → Follows now new → (IsKept device now.below → IsKept device new.below) → Cause device old (g.passed.bytes.0 ++ gives.bytes.0) fault new → AnswersFault device old fault new
+      lost_by kept ahead follows sound cause =
+          let came = passed_more now new line g gives sound in
+          record {
+            stays = record { bytes = came.bytes; format = follows.format ∙ g.format };
+            kept = kept;
+            was_none = g.was_none;
+            none_buffered = ahead;
+            state = follows.state ∙ g.state;
+            again = grind arith;
+            first = λ none. cause;
+            below_went = λ none. sym g.began ∙ none;
+            rises = came.least;
+            lines = λ none. came.lines;
+            near = λ none. near_after old.below new.below came.bytes.0 came.lines came.least;
+          }
 
-    lost_by : (now new : MemberReader S A State) (line : TextLine) (fault : FaultValue) → Going old now → LineCame device now.below line new.below → new.fault ≡ Some fault → new.buffered ≡ [] → Follows now new → (IsKept device now.below → IsKept device new.below)
-        → Cause device old fault new → AnswersFault device old fault new
-    lost_by now new line fault g gives kept ahead follows sound cause = grind (arith, passed_more, near_came)
+      -- a line was wrong
+      pub going_wrong : new.fault ≡ Some fault → new.buffered ≡ [] → Follows now new → (IsKept device now.below → IsKept device new.below) → {kind : Kind}
+          → now.format.says now.state line ≡ Err kind → is_of_line kind ≡ true → fault ≡ fault_at_line (input_of old.below) line.number kind → AnswersFault device old fault new
+      going_wrong kept ahead follows sound {kind} says of_line is = lost_by kept ahead follows sound (inl (wrong_cause kind says of_line is))
 
-    -- a line was wrong
-    pub going_wrong : {now new : MemberReader S A State} {line : TextLine} {fault : FaultValue} {kind : Kind} → Going old now → LineCame device now.below line new.below → new.fault ≡ Some fault → new.buffered ≡ [] → Follows now new → (IsKept device now.below → IsKept device new.below)
-        → now.format.says now.state line ≡ Err kind → is_of_line kind ≡ true → fault ≡ fault_at_line (input_of old.below) line.number kind → AnswersFault device old fault new
-    going_wrong {now} {new} {line} {fault} {kind} g gives kept ahead follows sound says of_line is =
-        grind (arith, (lost_by now new line fault g gives kept ahead follows sound (inl (wrong_cause now new line fault kind g gives says of_line is))))
-
-    -- a member had no room
-    pub going_unkept : {now new : MemberReader S A State} {line : TextLine} {fault : FaultValue} {item : A} → Going old now → LineCame device now.below line new.below → new.fault ≡ Some fault → new.buffered ≡ [] → Follows now new → (IsKept device now.below → IsKept device new.below)
-        → now.format.says now.state line ≡ Ok (Some item) → fault ≡ no_memory → AnswersFault device old fault new
-    going_unkept {now} {new} {line} {fault} {item} g gives kept ahead follows sound says is =
-        grind (arith, (lost_by now new line fault g gives kept ahead follows sound (inr (inr (unkept_cause now new line fault item g gives says is)))))
+      -- a member had no room
+      pub going_unkept : new.fault ≡ Some fault → new.buffered ≡ [] → Follows now new → (IsKept device now.below → IsKept device new.below) → {item : A}
+          → now.format.says now.state line ≡ Ok (Some item) → fault ≡ no_memory → AnswersFault device old fault new
+      going_unkept kept ahead follows sound {item} says is = lost_by kept ahead follows sound (inr (inr (unkept_cause item says is)))
 
     -- the line couldn't be read
-    read_cause : (now new : MemberReader S A State) (fault : FaultValue) → Going old now → GivesFault device now.below fault new.below → line_fault now.below ≡ None → FailsToRead device now.below fault new.below ⊎ (fault ≡ no_memory) → Cause device old fault new
-    read_cause now new fault g gives going (inl fails) =
-        inr (inl (record {
-          fails = record {
-            is = fails.is ∙ ap (λ i. read_failed i (suc (lines_given now.below))) (same_input now g) ∙ ap (λ n. read_failed (input_of old.below) (suc n)) (sym gives.counted);
-            kept = gives.kept;
-            cause = fails.cause;
-            before_end = not_told (end_told old.below) (end_told now.below) g.passed.bytes.1.told_stays (gives.before_end going);
-            cut = cut_fault device old.below now.below new.below g.passed fault gives going fails.is;
-          };
-          passed = rw (sym gives.counted) at (beyond now g going);
-        }))
-    read_cause now new fault g gives going (inr is) = grind (arith, beyond)
+    module _ (now new : MemberReader S A State) (fault : FaultValue) (g : Going old now) (gives : GivesFault device now.below fault new.below) where
+      passed_unread : line_fault now.below ≡ None → SaidNothing old (g.passed.bytes.0 ++ gives.bytes.0) new
+      passed_unread going rest follows = beyond now new gives.bytes.0 g gives.bytes.1 going gives.counted rest follows g
+
+      read_cause : line_fault now.below ≡ None → FailsToRead device now.below fault new.below ⊎ (fault ≡ no_memory) → Cause device old (g.passed.bytes.0 ++ gives.bytes.0) fault new
+      read_cause going (inl fails) =
+          inr (inl (record {
+            fails = record {
+              is = fails.is ∙ ap (λ i. read_failed i (suc (lines_given now.below))) (same_input now g) ∙ ap (λ n. read_failed (input_of old.below) (suc n)) (sym gives.counted);
+              kept = gives.kept;
+              cause = fails.cause;
+              before_end = not_told (end_told old.below) (end_told now.below) g.passed.bytes.1.told_stays (gives.before_end going);
+              cut = cut_fault device old.below now.below new.below g.passed fault gives going fails.is;
+            };
+            passed = passed_unread going;
+          }))
+      read_cause going (inr is) = inr (inr (record { is = is; checked = inl (gives.kept ∙ ap Some is, passed_unread going); served = gives.served is ∙ g.served }))
 
     pub going_unread : (now new : MemberReader S A State) (fault : FaultValue) → Going old now → GivesFault device now.below fault new.below → new.fault ≡ Some fault → new.buffered ≡ [] → Follows now new → (new.below ≡ now.below → new.fault ≡ now.fault → new ≡ now)
         → AnswersFault device old fault new
     going_unread now new fault g gives kept ahead follows track = record {
+      stays = stays_more now new g gives.bytes follows;
       kept = kept;
       was_none = g.was_none;
       none_buffered = ahead;
       state = follows.state ∙ g.state;
       again = grind arith;
       first = λ none. let going = sym g.rest ∙ g.going none in read_cause now new fault g gives going (gives.first going);
-      stays = stays_more now new g gives.bytes follows;
+      below_went = λ none. sym g.began ∙ none;
       rises = omega (arith, g.passed.least, gives.counted);
       lines = λ none. absurd (let apart : None ≡ Some fault = sym none ∙ gives.kept in cc);
-      near = λ none sound. near_fault device old.below now.below new.below g.passed fault gives (sym g.rest ∙ g.going none);
+      near = λ none. near_fault device old.below now.below new.below g.passed fault gives (sym g.rest ∙ g.going none);
     }
 
     room_at_end : (now : LineReader S) (reader : LineReader S) → GivesEnd device now reader → line_room reader ≤ line_room now
@@ -376,40 +476,42 @@ module _ {S A State : Type 0} (device : Source S) where
     pub going_end : (now new : MemberReader S A State) → Going old now → GivesEnd device now.below new.below → new.buffered ≡ [] → new.fault ≡ line_fault new.below → Follows now new → (new.below ≡ now.below → new.fault ≡ now.fault → new ≡ now)
         → EndsMembers device old new
     going_end now new g gives ahead rest follows track =
-        let none : IfSome (good_coming device.left now) (λ good. good ≡ ends_with None) =
-        rw (good_is now (g.rest ∙ gives.was_going)) (good_end now.format (input_of now.below) now.state (lines_left device.left now.below) (none_left device now.below new.below gives)) in
+        let all = g.passed.bytes.0 ++ gives.bytes.0 in
+        let still : MayStillCome now.below gives.bytes.0 = λ told. sym (append-nil gives.bytes.0) ∙ comes_before device gives.bytes.1 [] (λ e. refl) told in
         record {
-          none_left = remains_if (good_coming device.left old) (good_coming device.left now) (λ good. good ≡ ends_with None) g.good none;
-          none_comes = rw (good_is new (rest ∙ gives.goes)) (good_end new.format (input_of new.below) new.state (lines_left device.left new.below) (none_comes device now.below new.below gives));
+          stays = stays_more now new g (gives.bytes.0, gives.bytes.1) follows;
+          none_left = g.good gives.bytes.0 still ∙ good_is now (g.rest ∙ gives.was_going) gives.bytes.0
+              ∙ ap (good_after now.format (input_of now.below) now.state) (none_came device now.below new.below gives) ∙ good_none now.format (input_of now.below) now.state;
+          none_comes = good_is new (rest ∙ gives.goes) [] ∙ ap (good_after new.format (input_of new.below) new.state) (none_comes device now.below new.below gives) ∙ good_none new.format (input_of new.below) new.state;
           was_none = g.was_none;
           none_buffered = ahead;
           state = follows.state ∙ g.state;
           ends = gives.ends;
           told = gives.told;
           rises = omega (arith, g.passed.least, gives.counted);
-          lines = grind (arith, (none_left device now.below new.below gives));
+          lines = ap (λ n. drop (n - lines_given old.below) (lines_coming all old.below)) gives.counted ∙ sym (g.passed.lines gives.bytes.0 still) ∙ none_came device now.below new.below gives;
           again = grind arith;
           served = gives.served ∙ g.served;
           was_going = grind arith;
           goes = rest ∙ gives.goes;
-          stays = stays_more now new g (gives.bytes.0, gives.bytes.1) follows;
+          below_goes = gives.goes;
           shrinks = omega (arith, room_at_end now.below new.below gives, g.shrinks);
         }
 
   -- a reader that has given no member has all of the good ones left
   pub good_at_first : (reader : MemberReader S A State) → reader.fault ≡ None → reader.state ≡ reader.format.begin
-      → good_coming device.left reader ≡ option_map (good reader.format (input_of reader.below)) (lines_left device.left reader.below)
-  good_at_first reader going begin = good_is reader going ∙ (rw begin refl)
+      → (rest : List ℕ) → coming rest reader ≡ good reader.format (input_of reader.below) (lines_coming rest reader.below)
+  good_at_first reader going begin rest = good_is reader going rest ∙ (rw begin refl)
 
   -- the member ahead is given again
-  pub gives_again : (old : MemberReader S A State) (line : TextLine) (more : List TextLine) (item : A) (items : List A) → old.fault ≡ None → 0 < length (buffered_bytes old.below) → buffered_in old.below ≡ line ∷ more
+  pub gives_again : (old : MemberReader S A State) (line : TextLine) (more : List TextLine) (item : A) (items : List A) → old.fault ≡ None → line_fault old.below ≡ None → 0 < length (buffered_bytes old.below) → buffered_in old.below ≡ line ∷ more
       → line.number ≡ suc (lines_given old.below) → old.format.says old.state line ≡ Ok (Some item) → old.buffered ≡ item ∷ items → GivesMember device old (record { line = line.number; item = item }) old
-  gives_again old line more item items going some first number says buffered = record {
+  gives_again old line more item items going below_goes some first number says buffered = record {
+    stays = record { bytes = ([], hands_none device old.below); format = refl };
     ahead = ap (first_from (suc (lines_given old.below))) buffered ∙ ap (λ n. Some (record { line = n; item = item })) (sym number);
     state = refl;
-    good = grind arith;
-    first = rw (good_is old going)
-        (good_first old.format (input_of old.below) old.state line item (lines_left device.left old.below) (lines_first old (lines_left device.left old.below) (lines_left device.left old.below) line more (buffered_in old.below) (is_prefix device.left old.below) first) says);
+    good = λ rest follows. refl;
+    first = λ rest follows. good_first old going rest line (drop 1 (lines_coming rest old.below)) item (next_comes old.below line more first rest follows) says;
     said = (line, says);
     again = λ some. refl;
     at = number;
@@ -418,8 +520,8 @@ module _ {S A State : Type 0} (device : Source S) where
     served = refl;
     was_going = going;
     goes = refl;
-    stays = record { bytes = ([], hands_none device old.below); format = refl };
+    below_goes = below_goes;
     lines = (came_none device old.below).lines;
-    near = near_came device old.below old.below (came_none device old.below);
+    near = near_after old.below old.below [] (came_none device old.below).lines (omega arith);
     shrinks = omega arith;
   }

@@ -7,7 +7,7 @@ use Rattle.bt_lines.specs.calls.Faults.{no_memory}
 use Rattle.bt_lines.specs.declared.fault.Input.{Input}
 use Rattle.bt_lines.specs.declared.fault.Kind.TheVariants.{NoMemory as OutOfMemory, ReadFailed}
 use Rattle.bt_lines.proofs.lemmas.reader.lines.TextLemmas.{line_feeds-append}
-use Rattle.bt_lines.specs.calls.Reader.{AreRead, EndsKnown, Hands, IsReadFailed, bytes_taken, end_told, fault_kept, feeds_taken, input_of, source_of}
+use Rattle.bt_lines.specs.calls.Reader.{AreRead, EndsKnown, Hands, IsReadFailed, MayStillCome, bytes_taken, end_told, fault_kept, feeds_taken, input_of, source_of}
 use Rattle.bt_lines.specs.declared.device.Source.{Ghosts as Source}
 use Rattle.bt_lines.specs.declared.reader.line_reader.LineReader.{LineReader}
 
@@ -141,6 +141,11 @@ module _ {S : Type 0} (device : Source S) where
 
   pub hands_none : (reader : LineReader S) → Hands device reader [] reader
   hands_none reader = hands_still reader reader refl refl refl (λ e. refl) refl refl
+
+  -- what may still come after a call may come before it, behind the bytes of the call
+  pub comes_before : {old new : LineReader S} {bytes : List ℕ} → Hands device old bytes new → (rest : List ℕ) → MayStillCome new rest → MayStillCome old (bytes ++ rest)
+  unfolding EndsKnown
+  comes_before hands rest follows = λ told. rw (hands.ends.0 told, follows (hands.told_stays told)) refl
 
   -- one call after another
   module _ {old mid new : LineReader S} {first second : List ℕ} (p : Hands device old first mid) (q : Hands device mid second new) where

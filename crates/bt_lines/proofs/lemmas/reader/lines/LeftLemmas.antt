@@ -1,14 +1,29 @@
 -- Lemmas on the lines that are left of known bytes, by those that come whatever follows.
-use Rattle.bt_lines.proofs.Std.{◌≡◌, ◌∙◌, ℕ, suc, Bool, true, false, false≢true, List, [], ◌∷◌, ◌++◌, length, take, drop, Option, None, Some, IfSome, option_map, refl, sym, ap, subst, append_assoc, append-nil, arith, Consumes}
+use Rattle.bt_lines.proofs.Std.{◌≡◌, ◌∙◌, ◌+◌, ◌≤◌, ℕ, suc, Bool, true, false, false≢true, List, [], ◌∷◌, ◌++◌, length, take, drop, Option, None, Some, IfSome, option_map, refl, sym, ap, subst, append_assoc, append-nil, arith, Consumes}
 use Rattle.bt_lines.specs.declared.device.Source.{Ghosts as Source}
-use Rattle.bt_lines.proofs.lemmas.reader.lines.StepLemmas.{none_told}
 use Rattle.bt_lines.proofs.lemmas.reader.lines.TakingLemmas.{prefix_of}
 use Rattle.bt_lines.proofs.lemmas.reader.lines.TextLemmas.{lines_from-nil}
-use Rattle.bt_lines.specs.calls.Line.{GivesFirst, line_feeds}
-use Rattle.bt_lines.specs.calls.Reader.{DropsLines, EndsKnown, GivesEnd, GivesLine, Hands, MakesLine, MayFollow, TakesLines, buffered_bytes, buffered_in, bytes_left, end_told, held, left_at, lines_coming, lines_given, lines_left, source_of}
+use Rattle.bt_lines.specs.calls.Line.{line_feeds}
+use Rattle.bt_lines.specs.calls.Reader.{EndsKnown, GivesEnd, GivesLine, Hands, MakesLine, MayStillCome, TakesLines, buffered_bytes, buffered_in, bytes_left, end_told, held, left_at, lines_coming, lines_given, lines_left, source_of}
 use Rattle.bt_lines.specs.declared.reader.buffered_lines.ConsumedLines.{ConsumedLines}
 use Rattle.bt_lines.specs.declared.reader.line_reader.LineReader.{LineReader}
-use Rattle.bt_lines.specs.model.Lines.{TextLine, lines_from}
+use Rattle.bt_lines.specs.model.Lines.{TextLine, bytes_in, lines_from}
+use Rattle.bt_lines.specs.calls.Output.{block_size}
+
+-- the first of the lines that are left, if they are known, was given
+abbrev pub GivesFirst : Option (List TextLine) → TextLine → Option (List TextLine) → Type 0
+GivesFirst None line new = Unit {0}
+GivesFirst (Some old) line None = ⊥
+GivesFirst (Some old) line (Some new) = old ≡ line ∷ new
+
+-- the first `count` lines are gone, if they were known
+abbrev pub DropsLines : Option (List TextLine) → ℕ → Option (List TextLine) → Type 0
+DropsLines None count new = Unit {0}
+DropsLines (Some lines) count new = new ≡ Some (drop count lines)
+
+-- of known lines, those left after one was given are the others
+pub given_drops : (old : Option (List TextLine)) (line : TextLine) (new : Option (List TextLine)) → GivesFirst old line new → IfSome old (λ lines. new ≡ Some (drop 1 lines))
+given_drops old line new h = grind arith
 
 -- what is so of the lines before a call and after it, if they are known
 abbrev pub BothLeft : (List TextLine → List TextLine → Type 0) → Option (List TextLine) → Option (List TextLine) → Type 0
@@ -21,10 +36,6 @@ first_left (Some before) b line h = subst (λ (o : Option (List TextLine)). Give
 drops_left : (a b : Option (List TextLine)) (count : ℕ) → BothLeft (λ before after. after ≡ drop count before) a b → DropsLines a count b
 drops_left None b count h = tt
 drops_left (Some before) b count h = h.1 ∙ ap Some h.2
-
-none_before : (a b : Option (List TextLine)) → BothLeft (λ before after. before ≡ []) a b → IfSome a (λ lines. lines ≡ [])
-none_before None b h = tt
-none_before (Some before) b h = h.2
 
 -- if nothing follows
 at_end : (P : List TextLine → List TextLine → Type 0) (m n : ℕ) (x before bytes after : List ℕ) → before ++ (bytes ++ []) ≡ x → P (lines_from m (before ++ (bytes ++ []))) (lines_from n (after ++ [])) → P (lines_from m x) (lines_from n after)
@@ -45,6 +56,20 @@ both_by P m n before after bytes (Some x) (Some y) false true consumed stays non
 both_by P m n before after bytes (Some x) (Some y) false false consumed stays none all so =
     (lines_from n (after ++ y), refl, subst (λ l. P (lines_from m (before ++ l)) (lines_from n (after ++ y))) (sym consumed) (so y (λ e. absurd (false≢true e))))
 
+-- the bytes of all but the first k lines are left, except at most a block
+near_by : (m k : ℕ) (before bytes : List ℕ) (a b : Option (List ℕ)) (told told_now : Bool) → Consumes a b bytes → (told ≡ true → told_now ≡ true) → (told ≡ true → bytes ≡ []) → (told ≡ false → told_now ≡ true → IfSome a (λ text. text ≡ bytes))
+    → ((rest : List ℕ) → (told_now ≡ true → rest ≡ []) → bytes_in (drop k (lines_from m (before ++ (bytes ++ rest)))) ≤ length rest + block_size)
+    → IfSome (option_map (lines_from m) (left_at told before a)) (λ lines. IfSome b (λ rest. bytes_in (drop k lines) ≤ length rest + block_size))
+near_by m k before bytes None b true told_now consumed stays none all so = tt
+near_by m k before bytes None b false told_now consumed stays none all so = tt
+near_by m k before bytes (Some x) None told told_now consumed stays none all so = absurd consumed
+near_by m k before bytes (Some x) (Some y) true false consumed stays none all so = absurd (false≢true (stays refl))
+near_by m k before bytes (Some x) (Some y) true true consumed stays none all so =
+    omega (arith, so [] (λ e. refl), ap (λ l. bytes_in (drop k (lines_from m l))) (ap (λ l. before ++ l) (append-nil bytes ∙ none refl) ∙ append-nil before))
+near_by m k before bytes (Some x) (Some y) false true consumed stays none all so =
+    omega (arith, so [] (λ e. refl), ap (λ l. bytes_in (drop k (lines_from m (before ++ l)))) (append-nil bytes ∙ sym (all refl refl)))
+near_by m k before bytes (Some x) (Some y) false false consumed stays none all so = subst (λ l. bytes_in (drop k (lines_from m (before ++ l))) ≤ length y + block_size) (sym consumed) (so y (λ e. absurd (false≢true e)))
+
 one_by : (Q : List TextLine → Type 0) (n : ℕ) (held : List ℕ) (a : Option (List ℕ)) (told : Bool) → ((rest : List ℕ) → (told ≡ true → rest ≡ []) → Q (lines_from n (held ++ rest)))
     → IfSome (option_map (lines_from n) (left_at told held a)) Q
 one_by Q n held None true so = tt
@@ -60,11 +85,19 @@ is_prefix left reader =
 
 module _ {S : Type 0} (device : Source S) (old new : LineReader S) where
   -- what is so of the lines that come is so of those that are left
-  both_left : {bytes : List ℕ} → Hands device old bytes new → (P : List TextLine → List TextLine → Type 0) → ((rest : List ℕ) → MayFollow new rest → P (lines_coming (bytes ++ rest) old) (lines_coming rest new))
+  pub both_left : {bytes : List ℕ} → Hands device old bytes new → (P : List TextLine → List TextLine → Type 0) → ((rest : List ℕ) → MayStillCome new rest → P (lines_coming (bytes ++ rest) old) (lines_coming rest new))
       → BothLeft P (lines_left device.left old) (lines_left device.left new)
   unfolding bytes_left lines_coming EndsKnown
   both_left {bytes} hands P so =
       both_by P (suc (lines_given old)) (suc (lines_given new)) (held old) (held new) bytes (device.left (source_of old)) (device.left (source_of new)) (end_told old) (end_told new)
+      hands.left_over hands.told_stays hands.ends.0 hands.ends.1 so
+
+  -- the bytes of all but the first k lines are left, except at most a block
+  pub near_left : {bytes : List ℕ} → Hands device old bytes new → (k : ℕ) → ((rest : List ℕ) → MayStillCome new rest → bytes_in (drop k (lines_coming (bytes ++ rest) old)) ≤ length rest + block_size)
+      → IfSome (lines_left device.left old) (λ lines. IfSome (device.left (source_of new)) (λ rest. bytes_in (drop k lines) ≤ length rest + block_size))
+  unfolding bytes_left lines_coming EndsKnown
+  near_left {bytes} hands k so =
+      near_by (suc (lines_given old)) k (held old) bytes (device.left (source_of old)) (device.left (source_of new)) (end_told old) (end_told new)
       hands.left_over hands.told_stays hands.ends.0 hands.ends.1 so
 
   -- the first of those left was given
@@ -86,17 +119,12 @@ module _ {S : Type 0} (device : Source S) (old new : LineReader S) where
       drops_left (lines_left device.left old) (lines_left device.left new) (line_feeds (take consumed.bytes (buffered_bytes old)))
       (both_left takes.hands (λ before after. after ≡ drop (line_feeds (take consumed.bytes (buffered_bytes old))) before) takes.left_is)
 
-  -- none was left at the end
-  end_coming : GivesEnd device old new → (bytes rest : List ℕ) → held old ++ bytes ≡ [] → MayFollow new rest → lines_coming (bytes ++ rest) old ≡ []
+  -- at the end none came
+  pub none_came : (gives : GivesEnd device old new) → lines_coming gives.bytes.0 old ≡ []
   unfolding lines_coming
-  end_coming gives bytes rest nothing follows =
-      ap (lines_from (suc (lines_given old))) (sym (append_assoc (held old) bytes rest) ∙ ap (λ l. l ++ rest) nothing ∙ follows gives.told) ∙ lines_from-nil (suc (lines_given old))
+  none_came gives = ap (lines_from (suc (lines_given old))) gives.bytes.2 ∙ lines_from-nil (suc (lines_given old))
 
-  pub none_left : GivesEnd device old new → IfSome (lines_left device.left old) (λ lines. lines ≡ [])
-  none_left gives =
-      none_before (lines_left device.left old) (lines_left device.left new) (both_left gives.bytes.1 (λ before after. before ≡ []) (λ rest follows. end_coming gives gives.bytes.0 rest gives.bytes.2 follows))
-
-  -- and none is
-  pub none_comes : GivesEnd device old new → IfSome (lines_left device.left new) (λ lines. lines ≡ [])
-  unfolding bytes_left
-  none_comes gives = grind (arith, none_told)
+  -- and none comes
+  pub none_comes : GivesEnd device old new → lines_coming [] new ≡ []
+  unfolding lines_coming
+  none_comes gives = ap (λ l. lines_from (suc (lines_given new)) (l ++ [])) gives.nothing_held ∙ lines_from-nil (suc (lines_given new))

@@ -14,7 +14,7 @@ use Rattle.bt_lines.specs.inside.Spill.{Buffers, closed}
 use Rattle.bt_lines.specs.calls.Output.{block_size}
 use Rattle.bt_lines.specs.calls.Line.{NoLineFeed, line_feeds}
 use Rattle.bt_lines.specs.calls.Names.{fault_value}
-use Rattle.bt_lines.specs.calls.Reader.{AreRead, EndsKnown, FillsLines, IsKept, IsSound, buffered_bytes, Hands, IsNear, FailsToRead, end_told, GivesLine, source_of, input_of, lines_given, bytes_taken, held, fault_kept, has_ended, bytes_left, feeds_taken, lines_coming, MayFollow}
+use Rattle.bt_lines.specs.calls.Reader.{AreRead, EndsKnown, FillsLines, IsKept, IsSound, buffered_bytes, Hands, IsNear, FailsToRead, end_told, GivesLine, source_of, input_of, lines_given, bytes_taken, held, fault_kept, has_ended, bytes_left, feeds_taken, lines_coming, MayStillCome}
 use Rattle.bt_lines.specs.declared.fault.Fault.{Fault}
 use Rattle.bt_lines.specs.declared.fault.Input.{Input}
 use Rattle.bt_lines.specs.declared.reader.spill.Stop.{Stop}
@@ -52,12 +52,6 @@ pub told_ended : {S : Type 0} (reader : LineReader S) → reader.state ≡ Ended
 unfolding fault_kept end_told bytes_taken
 told_ended reader e = record { good = rw e refl; is_told = rw e refl; taken = rw e refl }
 
--- ---- lines of known bytes
-
--- none is left once the end was reported and nothing is held
-pub none_told : (n : ℕ) (a : Option (List ℕ)) (held : List ℕ) → held ≡ [] → IfSome (option_map (lines_from n) (option_map (λ ys. held) a)) (λ lines. lines ≡ [])
-none_told n a held e = grind (arith, lines_from-nil)
-
 -- ---- a line with a line feed
 
 module _ {S : Type 0} (device : Source S) {old : LineReader S} (new : LineReader S) (bytes piece : List ℕ) (was : Goes old) (is : Goes new)
@@ -84,7 +78,7 @@ module _ {S : Type 0} (device : Source S) {old : LineReader S} (new : LineReader
   fed_held : held old ++ bytes ≡ spelled (fed_line (suc (lines_given old)) piece) ++ held new
   fed_held = grind (arith, (spelled-fed (suc (lines_given old)) piece), (append_assoc piece (10 ∷ []) (held new)))
 
-  fed_lines : (rest : List ℕ) → MayFollow new rest → lines_coming (bytes ++ rest) old ≡ fed_line (suc (lines_given old)) piece ∷ lines_coming rest new
+  fed_lines : (rest : List ℕ) → MayStillCome new rest → lines_coming (bytes ++ rest) old ≡ fed_line (suc (lines_given old)) piece ∷ lines_coming rest new
   unfolding lines_coming
   fed_lines rest follows =
       ap (lines_from (suc (lines_given old))) (sym (append_assoc (held old) bytes rest) ∙ ap (λ l. l ++ rest) joined ∙ append_assoc piece (10 ∷ held new) rest)
@@ -129,7 +123,7 @@ module _ {S : Type 0} (device : Source S) {old : LineReader S} (new : LineReader
   unfolding lines_given
   last_below = omega (arith, new.a_byte_each, new.counted)
 
-  last_lines : (rest : List ℕ) → MayFollow new rest → lines_coming ([] ++ rest) old ≡ line ∷ lines_coming rest new
+  last_lines : (rest : List ℕ) → MayStillCome new rest → lines_coming ([] ++ rest) old ≡ line ∷ lines_coming rest new
   unfolding lines_coming
   last_lines rest follows =
       let none : rest ≡ [] = follows is.is_told in
@@ -250,11 +244,13 @@ module _ {S : Type 0} {device : Source S} {old new : LineReader S} {bytes text b
   cut_hands : Hands device old bytes new
   cut_hands = hands_by device old new bytes line.was.good line.reads line.consumed line.counted line.same (λ untold. cut_feeds) (λ e. absurd (false≢true (sym line.was.untold ∙ e))) (ends_untold device old new bytes line.was.untold line.untold)
 
-  cut_near : IsNear device.left old new
-  unfolding bytes_left
-  cut_near =
+  cut_near : IsNear old bytes new
+  unfolding lines_coming
+  cut_near rest follows =
       let one : suc (lines_given new) - lines_given old ≡ 1 = omega (arith, line.same_lines) in
-      rw (one, line.was.untold) (grind (arith, append_assoc, bytes_behind_first, length-append))
+      let all : held old ++ (bytes ++ rest) ≡ text ++ (behind ++ rest) =
+      sym (append_assoc (held old) bytes rest) ∙ ap (λ l. l ++ rest) line.joined ∙ append_assoc text behind rest in
+      rw (one, all) (omega (arith, bytes_behind_first (suc (lines_given old)) text (behind ++ rest) line.clear, length-append behind rest, line.short))
 
   cut_given : text ≡ held old ++ take (2 ^ 63 - 1 - bytes_taken old) bytes
       → lines_given new ≡ feeds_taken old + line_feeds (take (2 ^ 63 - 1 - bytes_taken old) bytes)
@@ -264,7 +260,23 @@ module _ {S : Type 0} {device : Source S} {old new : LineReader S} {bytes text b
   pub stepped_cut : (fault_value fault ≡ read_failed (input_of old) (suc (lines_given old)) → text ≡ held old ++ take (2 ^ 63 - 1 - bytes_taken old) bytes)
       → FailsToRead device old (fault_value fault) new ⊎ (fault_value fault ≡ no_memory) → (fault_value fault ≡ no_memory → device.has_failed (source_of new) ≡ device.has_failed (source_of old))
       → FillsLines device old (Err fault) new
-  stepped_cut cut cause served = grind (arith, cut_hands, cut_given, cut_near)
+  stepped_cut cut cause served = record {
+    answers = record {
+      kept = line.kept;
+      bytes = (bytes, cut_hands);
+      counted = line.same_lines;
+      again = λ before e. absurd (let apart : Some before ≡ None = sym e ∙ line.was.good in cc);
+      was_going = line.was.open_ended;
+      before_end = λ going. line.was.untold;
+      no_line = λ going. line.no_line;
+      first = λ going. cause;
+      cut_off = λ going e. record { bytes = bytes; hands = cut_hands; given = cut_given (cut e) };
+      near = λ going. cut_near;
+      served = served;
+    };
+    unread = λ h. absurd (omega (arith, h, ap length line.empty));
+    kept = λ h. record { end = λ e. absurd (false≢true (sym line.untold ∙ e)); within = λ e. absurd (let apart : None ≡ Some (fault_value fault) = sym e ∙ line.kept in cc) };
+  }
 
 -- ---- the same, by the fields of the reader
 

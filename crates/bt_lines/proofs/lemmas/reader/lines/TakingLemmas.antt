@@ -5,8 +5,8 @@ use Rattle.bt_lines.proofs.lemmas.reader.block.BufferLemmas.{fed_clear, fed_drop
 use Rattle.bt_lines.proofs.lemmas.reader.block.ReadsLemmas.{hands_still}
 use Rattle.bt_lines.proofs.lemmas.reader.lines.BufferedLemmas.{are_fed, lines_fit}
 use Rattle.bt_lines.proofs.lemmas.reader.lines.TextLemmas.{lines_from-fed, lines_from-last, lines_from-nil, by_lines, bytes_in-drop, bytes_in-lines, lines_are_numbered, whole_lines_from-last, line_feeds-append, line_feeds-fed, whole_count, whole_front}
-use Rattle.bt_lines.specs.calls.Reader.{buffered_lines, Hands, IsKept, IsPrefix, MayFollow, TakesLines, lines_coming, bytes_taken, buffered_in, fault_kept, feeds_taken, has_ended, input_of, buffered_bytes, bytes_left, is_open, end_told, held, left_at, lines_given, lines_left, source_of, IsSound}
-use Rattle.bt_lines.specs.calls.Line.{NoLineFeed, GivesFirst, line_feeds}
+use Rattle.bt_lines.specs.calls.Reader.{buffered_lines, Hands, IsKept, IsPrefix, MayStillCome, TakesLines, lines_coming, bytes_taken, buffered_in, fault_kept, feeds_taken, has_ended, input_of, buffered_bytes, bytes_left, is_open, end_told, held, left_at, lines_given, lines_left, source_of, IsSound}
+use Rattle.bt_lines.specs.calls.Line.{NoLineFeed, line_feeds}
 use Rattle.bt_lines.specs.model.Lines.{TextLine, bytes_in, last_line, lines_from, whole_lines_from}
 use Rattle.bt_lines.specs.calls.Output.{block_size}
 use Rattle.bt_lines.specs.inside.ReadBuffer.{complete, unread, ended_at, fault_at, lends_at, open_at, taken_at, told_at}
@@ -162,18 +162,18 @@ module _ {S : Type 0} (device : Source S) (old new : LineReader S) (n : ℕ) (ta
   open_lines : open_at old.state ≡ true → lines_from (suc (lines_given new)) (held new) ≡ drop (line_feeds (take n (complete old.buffer))) (lines_from (suc (lines_given old)) (held old))
   open_lines opened = grind (arith, open_held, are_fed, numbers, still, whole, drop_all, few_lines, front_feeds, fed_last, lines_from-nil)
 
-  open_taken : open_at old.state ≡ true → (rest : List ℕ) → MayFollow new rest → lines_coming rest new ≡ drop (line_feeds (take n (complete old.buffer))) (lines_coming rest old)
+  open_taken : open_at old.state ≡ true → (rest : List ℕ) → MayStillCome new rest → lines_coming rest new ≡ drop (line_feeds (take n (complete old.buffer))) (lines_coming rest old)
   unfolding lines_coming
   open_taken opened rest follows =
       let none : rest ≡ [] = follows (told_taken ∙ open_is_told old opened) in
       ap (lines_from (suc (lines_given new))) (ap (λ l. held new ++ l) none ∙ append-nil (held new)) ∙ open_lines opened
       ∙ ap (λ l. drop (line_feeds (take n (complete old.buffer))) (lines_from (suc (lines_given old)) l)) (sym (ap (λ l. held old ++ l) none ∙ append-nil (held old)))
 
-  taken_by : (b : Bool) → open_at old.state ≡ b → (rest : List ℕ) → MayFollow new rest → lines_coming rest new ≡ drop (line_feeds (take n (complete old.buffer))) (lines_coming rest old)
+  taken_by : (b : Bool) → open_at old.state ≡ b → (rest : List ℕ) → MayStillCome new rest → lines_coming rest new ≡ drop (line_feeds (take n (complete old.buffer))) (lines_coming rest old)
   taken_by true opened rest follows = open_taken opened rest follows
   taken_by false plain rest follows = closed_taken plain rest
 
-  all_taken : (rest : List ℕ) → MayFollow new rest → lines_coming rest new ≡ drop (line_feeds (take n (complete old.buffer))) (lines_coming rest old)
+  all_taken : (rest : List ℕ) → MayStillCome new rest → lines_coming rest new ≡ drop (line_feeds (take n (complete old.buffer))) (lines_coming rest old)
   all_taken = taken_by (open_at old.state) refl
 
   fault_taken : fault_kept new ≡ fault_kept old
@@ -242,29 +242,33 @@ takes_lines device old new consumed given takes = record {
 
 -- ---- what follows the next line
 
-near_all : (number : ℕ) (held : List ℕ) (told : Bool) (left : Option (List ℕ)) → length held ≤ block_size
-    → IfSome (option_map (lines_from number) (left_at told held left)) (λ lines. IfSome left (λ rest. bytes_in (drop 1 lines) ≤ length rest + block_size))
-near_all number held true None short = tt
-near_all number held false None short = tt
-near_all number held true (Some rest) short = omega (arith, short, bytes_in-lines number held, bytes_in-drop 1 (lines_from number held))
-near_all number held false (Some rest) short = omega (arith, short, bytes_in-lines number (held ++ rest), bytes_in-drop 1 (lines_from number (held ++ rest)), length-append held rest)
+near_all : (number : ℕ) (held rest : List ℕ) → length held ≤ block_size → bytes_in (drop 1 (lines_from number (held ++ rest))) ≤ length rest + block_size
+near_all number held rest short = omega (arith, short, bytes_in-lines number (held ++ rest), bytes_in-drop 1 (lines_from number (held ++ rest)), length-append held rest)
 
-near_one : (number : ℕ) (lines unread : List ℕ) (told : Bool) (left : Option (List ℕ)) → is_fed lines ≡ true → line_feeds lines ≡ 1 → length unread ≤ block_size
-    → IfSome (option_map (lines_from number) (left_at told (lines ++ unread) left)) (λ all. IfSome left (λ rest. bytes_in (drop 1 all) ≤ length rest + block_size))
-near_one number lines unread told left fed one short = grind (arith, length-append, append_assoc, drop_fed, bytes_in-lines)
+near_one : (number : ℕ) (lines unread rest : List ℕ) → is_fed lines ≡ true → line_feeds lines ≡ 1 → length unread ≤ block_size → bytes_in (drop 1 (lines_from number ((lines ++ unread) ++ rest))) ≤ length rest + block_size
+near_one number lines unread rest fed one short = grind (arith, length-append, append_assoc, drop_fed, bytes_in-lines)
 
 open_few : (number : ℕ) (lines : List ℕ) → is_fed lines ≡ true → line_feeds lines ≤ 1 → drop 1 (lines_from number (take (length lines - 1) lines)) ≡ []
 open_few number lines fed one = grind (arith, common_steps, (few_lines number (take (length lines - 1) lines)), (front_feeds lines one (fed_last lines fed)))
 
-module _ {S : Type 0} (left : S → Option (List ℕ)) (reader : LineReader S) where
-  -- of known bytes, those after the next line are left at the source, except a block at most
+module _ {S : Type 0} (reader : LineReader S) (rest : List ℕ) (follows : MayStillCome reader rest) where
+  -- what follows the next line comes from the source, except at most a block
   abbrev IsNearNext : Type 0
-  IsNearNext = IfSome (lines_left left reader) (λ lines. IfSome (left (source_of reader)) (λ rest.
-      bytes_in (drop 1 lines) ≤ length rest + block_size))
+  IsNearNext = bytes_in (drop 1 (lines_coming rest reader)) ≤ length rest + block_size
+
+  near_open : open_at reader.state ≡ true → IsNearNext
+  unfolding lines_coming
+  near_open e =
+      let none : rest ≡ [] = follows (open_is_told reader e) in
+      grind (arith, open_held, are_fed, open_few, append-nil)
+
+  near_closed : open_at reader.state ≡ false → IsNearNext
+  unfolding lines_coming
+  near_closed e = grind (arith, are_fed, closed_held, near_all, lines_fit, fed_none, unread_fits, near_one)
 
   near_by : (b : Bool) → open_at reader.state ≡ b → IsNearNext
-  unfolding bytes_left source_of
-  near_by b e = grind (arith, open_held, open_is_told, are_fed, closed_held, near_all, lines_fit, fed_none, unread_fits, near_one, open_few)
+  near_by true e = near_open e
+  near_by false e = near_closed e
 
   pub near_next : IsNearNext
   near_next = near_by (open_at reader.state) refl
@@ -320,12 +324,7 @@ some_buffered reader some none = grind (arith, none_buffered, are_fed)
 pub not_told : (a b : Bool) → (a ≡ true → b ≡ true) → b ≡ false → a ≡ false
 not_told a b stays e = grind arith
 
--- of known bytes, those of the lines that are left are left at the source, except at most a block
-pub sound_near : {S : Type 0} (device : Source S) (reader : LineReader S) → IsSound device reader → fault_kept reader ≡ None
-    → IfSome (lines_left device.left reader) (λ lines. IfSome (device.left (source_of reader)) (λ rest. bytes_in lines ≤ length rest + block_size))
-unfolding bytes_left
-sound_near device reader sound going = grind (arith, bytes_in-lines, length-append)
-
--- of known lines, those left after one was given are the others
-pub given_drops : (old : Option (List TextLine)) (line : TextLine) (new : Option (List TextLine)) → GivesFirst old line new → IfSome old (λ lines. new ≡ Some (drop 1 lines))
-given_drops old line new h = grind arith
+-- the lines that come are read from the source, except at most a block
+pub sound_near : {S : Type 0} (device : Source S) (reader : LineReader S) → IsSound device reader → fault_kept reader ≡ None → (rest : List ℕ) → bytes_in (lines_coming rest reader) ≤ length rest + block_size
+unfolding lines_coming
+sound_near device reader sound going rest = omega (arith, sound.near going, bytes_in-lines (suc (lines_given reader)) (held reader ++ rest), length-append (held reader) rest)

@@ -260,7 +260,7 @@ module _ {S : Type 0} (split cigar : Bool) (device : Source S) where
 
   module _ (old : LineReader S) (out : Output) where
     pub going_start : IsFresh device (sam_reader old) → HoldsBlock out.took out.put → Going old out old out
-    going_start fresh block = record { past = []; fed = fed_none lines_of device (sam_reader old) out fresh fresh.going refl block; sound = fresh.sound }
+    going_start fresh block = record { past = []; fed = fed_none lines_of device (sam_reader old) out fresh refl block; sound = fresh.sound }
 
     module _ {now : LineReader S} {grown : Output} (g : Going old out now grown) where
       abbrev UpTo : FaultValue → MemberReader S Alignment ⊤ → Output → Type 0
@@ -276,7 +276,6 @@ module _ {S : Type 0} (split cigar : Bool) (device : Source S) where
           fed_all g.fed (record {
             ends = going_end device (sam_reader now) (sam_reader now) (sam_reader new) steps ends refl refl (record { state = refl; format = refl }) (λ same fault. ap sam_reader same);
             kept = λ was. kept_of device new (sound g.sound);
-            clear = λ e. e;
           }) tt tt
 
       up_to : (new : MemberReader S Alignment ⊤) (fault : FaultValue) → IsStopped device (sam_reader now) fault new → UpTo fault new grown

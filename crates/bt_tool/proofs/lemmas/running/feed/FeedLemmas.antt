@@ -30,7 +30,7 @@ use Rattle.bt_runs.specs.calls.Engine.{EngineDef, FailsAtGiven, FeedsBatch, NotT
 use Rattle.bt_tool.specs.inside.Feed.{HasPut, AreInOrder, IsFresh, Took, TookButBlock, FeedsAll, FeedsUpTo, ConsumesGiven, HasTaken, IsReadFor, PassesMembers, member_items}
 use Rattle.bt_tool.proofs.lemmas.running.members.MemberLemmas.{IsFilled, IsOver, IsStopped, bytes_more, items_take, passes_all, passes_end, passes_fill, passes_start, passes_stop, passes_take, read_alone, read_at_stop, read_before, read_here}
 use Rattle.bt_tool.proofs.lemmas.running.feed.WritingLemmas.{begins_with}
-use Rattle.bt_tool.proofs.lemmas.running.members.PassedLemmas.{line_going, said_in_order}
+use Rattle.bt_tool.proofs.lemmas.running.members.PassedLemmas.{said_in_order}
 
 -- a sink that took a prefix of the lines took a prefix of all
 pub front_all : (took : Option (List ℕ)) (put : Option (List ℕ)) (before done lines whole : List ℕ) → whole ≡ done ++ lines → put ≡ Some (before ++ done) → IsPrefixOf took put lines → IsPrefixOf took (Some (before ++ whole)) []
@@ -89,9 +89,9 @@ pub record Fed {S A State : Type 0} (settled : List A → List ℕ) (device : So
   pub put : HasPut out (settled (member_items past)) grown
 
 -- none yet
-pub fed_none : {S A State : Type 0} (settled : List A → List ℕ) (device : Source S) (old : MemberReader S A State) (out : Output) → IsFresh device old → line_fault old.below ≡ None → settled [] ≡ [] → HoldsBlock out.took out.put
+pub fed_none : {S A State : Type 0} (settled : List A → List ℕ) (device : Source S) (old : MemberReader S A State) (out : Output) → IsFresh device old → settled [] ≡ [] → HoldsBlock out.took out.put
     → Fed settled device old out [] old out
-fed_none settled device old out fresh clear nothing block = grind (arith, (passes_start device old fresh clear), rules)
+fed_none settled device old out fresh nothing block = grind (arith, (passes_start device old fresh), rules)
 
 module _ {S A State : Type 0} {settled : List A → List ℕ} {device : Source S} {old : MemberReader S A State} {out : Output} {past : List (Member A)} {now : MemberReader S A State} {grown : Output}
     (g : Fed settled device old out past now grown) {new : MemberReader S A State} where
@@ -232,7 +232,7 @@ module _ {S O E : Type 0} {ghosts : Ghosts O} (definition : EngineDef E) (first 
 module _ {S O E : Type 0} {ghosts : Ghosts O} {definition : EngineDef E} {first : E} {device : Source S} {old : Records S O ghosts} {out : Output} where
   -- before the first record
   pub going_start : IsFresh device (view_of old) → definition.is_after first [] first → definition.settled first [] ≡ [] → HoldsBlock out.took out.put → Going definition first device old out old first out
-  going_start fresh stands nothing block = grind (arith, (passes_start device (view_of old) fresh (line_going old fresh.going)), (put_none out block))
+  going_start fresh stands nothing block = grind (arith, (passes_start device (view_of old) fresh), (put_none out block))
 
   module _ (is_bed : (view_of old).format ≡ bed_format (sorting_of (order_in old))) (total : IsTotal (order_in old)) (none_last : last_locus old ≡ None)
       (takes : (past : List Feature) → ArePlaced (order_in old) (intervals_of past) → AreNonEmpty (intervals_of past) → definition.takes first past)

@@ -18,7 +18,7 @@ use Rattle.bt_lines.specs.declared.reader.line_reader.LineReader.{LineReader}
 use Rattle.bt_lines.proofs.lemmas.reader.block.ReadsLemmas.{hands_both}
 use Rattle.bt_lines.proofs.lemmas.reader.lines.TextLemmas.{line_feeds-append}
 use Rattle.bt_bed.specs.model.Good.{Good, Member}
-use Rattle.bt_bed.proofs.lemmas.read.good.ReadingLemmas.{near_pass, pass_more}
+use Rattle.bt_bed.proofs.lemmas.read.good.KnownLemmas.{near_both, pass_both}
 use Rattle.bt_bed.specs.calls.Reading.{IsBeyond}
 use Rattle.bt_tool.specs.inside.Feed.{ComeFirst}
 
@@ -112,13 +112,13 @@ begins_beyond old now past count c b = grind arith
 pub lines_on : (start now next : Option (List TextLine)) (given more : ℕ) → given ≤ more
     → IfSome start (λ lines. now ≡ Some (drop given lines)) → IfSome now (λ lines. next ≡ Some (drop (more - given) lines))
     → IfSome start (λ lines. next ≡ Some (drop more lines))
-lines_on start now next given more h e f = pass_more start now next given (more - given) more e f (omega arith)
+lines_on start now next given more h e f = pass_both start now next given (more - given) more e f (omega arith)
 
 pub near_from_start : (start now : Option (List TextLine)) (rest : Option (List ℕ)) (given count : ℕ) → given ≤ count
     → IfSome start (λ lines. now ≡ Some (drop given lines))
     → IfSome now (λ lines. IfSome rest (λ rest. bytes_in (drop (suc count - given) lines) ≤ length rest + block_size))
     → IfSome start (λ lines. IfSome rest (λ rest. bytes_in (drop (suc count) lines) ≤ length rest + block_size))
-near_from_start start now rest given count h e n = near_pass start now rest given (suc count - given) (suc count) e (omega arith) n
+near_from_start start now rest given count h e n = near_both start now rest given (suc count - given) (suc count) e (omega arith) n
 
 -- line feeds among the bytes below the bound, of two pieces of which the first is below it
 feeds_below : (bound : ℕ) (front back : List ℕ) → length front ≤ bound

@@ -1,10 +1,10 @@
 -- Lemmas on the rounds of masking over two readers.
-use Rattle.bt_lines.proofs.Std.{◌≡◌, Bool, true, false, Option, None, Some, Result, Ok, Err, refl, sym, ◌∙◌, subst, ◌≤◌, ◌<◌, [], ap, arith, inl, IsErrAnd, ◌⊎◌, is_some, false≢true}
+use Rattle.bt_lines.proofs.Std.{◌≡◌, Bool, true, false, Option, None, Some, Result, Ok, Err, refl, sym, ◌∙◌, subst, ◌≤◌, ◌<◌, [], ap, arith, inl, inr, suc, IsErrAnd, ◌⊎◌, is_some, false≢true}
 use Rattle.bt_lines.specs.declared.device.Source.{Ghosts as Source}
 use Rattle.bt_lines.specs.model.Fault.{FaultValue}
 use Rattle.bt_lines.specs.calls.Names.{fault_value}
 use Rattle.bt_lines.specs.calls.Output.{Output, HoldsBlock}
-use Rattle.bt_lines.specs.calls.Reader.{FillsLines, fault_kept as line_fault, GivesEnd, IsKept, MakesLine, input_of}
+use Rattle.bt_lines.specs.calls.Reader.{FillsLines, fault_kept as line_fault, GivesEnd, IsKept, MakesLine, input_of, lines_given}
 use Rattle.bt_lines.specs.declared.fault.Fault.{Fault}
 use Rattle.bt_lines.specs.declared.reader.line_reader.LineReader.{LineReader}
 use Rattle.bt_bed.specs.calls.Blocks.{FillsBlocks, below, fault_kept, view_of}
@@ -25,7 +25,7 @@ use Rattle.bt_tool.proofs.lemmas.running.members.MemberLemmas.{IsFilled, IsOver,
 use Rattle.bt_tool.specs.inside.MaskLoop.{LoopGoesOn, MaskComes, MaskIsOver, mask_run, wanted_by, Masks, mask_rounds, line_members, mask_join, mask_pair, nothing_reached}
 use Rattle.bt_tool.proofs.lemmas.running.mask.MaskedLemmas.{AdvancesMask, MaskEnds, IsMaskReady, mask_left, finishes, stops_lines, stops_records, ends_alone, ends_lines, ends_waiting, fails_at_end, line_made, lines_done, record_made}
 use Rattle.bt_tool.specs.inside.Rounds.{IsLessOrReady, IsLessIfReady, LeadsTo}
-use Rattle.bt_tool.proofs.lemmas.running.members.BlockMembers.{block_filled, block_over, block_stopped, blocks_going}
+use Rattle.bt_tool.proofs.lemmas.running.members.BlockMembers.{block_filled, block_over, block_stopped}
 use Rattle.bt_tool.proofs.lemmas.running.whole.OwnFailureLemmas.{kept_there, line_none, none_below, none_tells, told_kept, told_none}
 use Rattle.bt_bed.proofs.lemmas.read.good.ReadingLemmas.{same_room}
 use Rattle.bt_bed.specs.model.Feature.{Feature}
@@ -37,7 +37,7 @@ use Rattle.bt_lines.specs.declared.fault.Input.TheVariants.{First}
 use Rattle.bt_bed.specs.calls.SortedReader.{view_with}
 use Rattle.bt_seq.specs.declared.mask.mask_how.MaskHow.{MaskHow}
 use Rattle.bt_tool.specs.inside.Pair.{IsOverWith}
-use Rattle.bt_tool.proofs.lemmas.running.pair.PairTurns.{comes_start}
+use Rattle.bt_tool.proofs.lemmas.running.pair.PairTurns.{comes_start, some_buffered}
 
 at_waiting : (waits : Bool) (want : MaskWant) → waits ≡ true → want ≡ WantBed → mask_rounds waits want ≡ 3
 at_waiting waits want e w = ap (λ b. mask_rounds b want) e ∙ ap (mask_rounds true) w
@@ -66,7 +66,10 @@ module _ {A B : Type 0} {source_a : Source A} {source_b : Source B} {start : Mas
 
   module _ (wants : mask.want ≡ WantBed) (second_now : MemberReader B Feature (Option Locus)) where
     pub record_filled : IsFilled source_b second second_now → Fills lines second_now mask out
-    record_filled filled = grind (arith, (record_made s wants second_now filled))
+    record_filled filled = (
+      (at, record_made s wants second_now filled),
+      inr (omega (arith, filled.gives.shrinks), rw wants (some_buffered (suc (lines_given second_now.below)) second_now.buffered filled.m filled.gives.ahead)),
+    )
 
     module _ (over : IsOver source_b second second_now) (masked : Masking) (now : Output) where
       ends_by : (o : Option SequenceLine) → s.stage.inputs.waiting ≡ o → {T : Type 0} (done : T)
@@ -211,18 +214,18 @@ module _ {A B : Type 0} {source_a : Source A} {source_b : Source B} {start : Mas
           ended (Some (fault_value fault)) with_end later
           (records_unended s.goes.1 (is_wanted old.mask.want WantB wants) (view_of records_now) (block_over source_b old.records records_now fills) masked later fault
           (λ waiting e. waits s.goes.1.stage waiting s.goes.1.stands e) (λ e. none s.goes.1.stage s.goes.1.stands e))
-          (λ never. (clear_first, none_tells (line_fault (below records_now)) ((block_over source_b old.records records_now fills).clear fills.answers.goes)))
+          (λ never. (clear_first, none_tells (line_fault (below records_now)) fills.answers.below_goes))
           (none_below (view_of records_now) (below records_now) fills.answers.goes)
 
   -- ---- what both have buffered was given
 
   module _ (new : MaskRun A B) (later : Output) (keeps : line_fault new.lines ≡ line_fault old.lines) (keeps_second : fault_kept new.records ≡ fault_kept old.records)
-      (clear : fault_kept new.records ≡ None → line_fault (below new.records) ≡ None) where
+      (keeps_below : line_fault (below new.records) ≡ line_fault (below old.records)) where
     gave_by : {T : Type 0} (answer : Result T Fault) → AdvancesMask source_a source_b start out old.lines (view_of old.records) old.mask answer new.lines (view_of new.records) new.mask later → Leads (IsLessIfReady (mask_run source_a source_b) old) answer new later
     gave_by (Ok done) gives = (record { goes = gives.0 }, (gives.1, gives.2))
     gave_by (Err fault) ends =
         ended (Some (fault_value fault)) new later ends
-        (λ never. (none_tells (line_fault new.lines) (keeps ∙ none_first), none_tells (line_fault (below new.records)) (clear (keeps_second ∙ none_second))))
+        (λ never. (none_tells (line_fault new.lines) (keeps ∙ none_first), none_tells (line_fault (below new.records)) (keeps_below ∙ s.goes.1.comes.second_passes.clear)))
         (none_below (view_of new.records) (below new.records) (keeps_second ∙ none_second))
 
     pub gave_both : {T : Type 0} (answer : Result T Fault)
@@ -242,9 +245,9 @@ blocks_format records = refl
 module _ {A B : Type 0} (source_a : Source A) (source_b : Source B) where
   -- nothing was given yet
   pub masks_start : (start : MaskRun A B) (out : Output) → input_of start.lines ≡ First
-      → IsFresh source_a (line_members start.mask.full nothing_reached start.lines) → line_fault start.lines ≡ None → IsFresh source_b (view_of start.records) → fault_kept start.records ≡ None
+      → IsFresh source_a (line_members start.mask.full nothing_reached start.lines) → IsFresh source_b (view_of start.records)
       → HoldsBlock out.took out.put → MaskStandsAt first_stage start.mask → MaskComes source_a source_b start out start out
-  masks_start start out first fresh going fresh_second kept block stands = record {
+  masks_start start out first fresh fresh_second block stands = record {
     goes = (
       nothing_reached,
       record {
@@ -257,8 +260,8 @@ module _ {A B : Type 0} (source_a : Source A) (source_b : Source B) where
         how_is = refl;
         full_is = refl;
         comes = comes_start (mask_join start.mask.how) (mask_pair source_a source_b start.mask.full start.lines (view_of start.records)) out
-            (passes_start source_a (line_members start.mask.full nothing_reached start.lines) fresh going)
-            (passes_start source_b (view_of start.records) fresh_second (blocks_going start.records kept)) block;
+            (passes_start source_a (line_members start.mask.full nothing_reached start.lines) fresh)
+            (passes_start source_b (view_of start.records) fresh_second) block;
         kept_ahead = λ r e. absurd (let apart : None ≡ Some r = e in cc);
         lines_over = λ e. absurd (false≢true e);
       },

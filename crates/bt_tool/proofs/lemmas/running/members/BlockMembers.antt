@@ -2,7 +2,7 @@
 use Rattle.bt_lines.proofs.Std.{◌≡◌, ℕ, Bool, true, false, List, [], take, None, Ok, Err, refl, ap, ◌∙◌, subst, option_map, IfSome_then, suc, ◌+◌, ◌-◌, ◌≤◌, ◌∷◌, ◌++◌, length, drop, Option, Some, sym, append_assoc, append-nil, length-append, arith, All, IfSome, drop-append_seam, All-append, inl}
 use Rattle.bt_lines.specs.declared.device.Source.{Ghosts as Source}
 use Rattle.bt_lines.proofs.lemmas.reader.lines.BufferedLemmas.{none_left}
-use Rattle.bt_lines.specs.calls.Reader.{buffered_bytes, buffered_in, fault_kept as line_fault, has_ended, is_open, lines_given, DropsLines, GivesEnd, GivesFault, IsKept, MakesLine, TakenLines, TakesLines, bytes_left, held, input_of, lines_left, source_of}
+use Rattle.bt_lines.specs.calls.Reader.{buffered_bytes, buffered_in, fault_kept as line_fault, has_ended, is_open, lines_given, GivesEnd, GivesFault, IsKept, MakesLine, MayStillCome, TakenLines, TakesLines, bytes_left, held, input_of, lines_coming, lines_left, source_of}
 use Rattle.bt_lines.specs.calls.Names.{fault_value}
 use Rattle.bt_lines.specs.declared.fault.Fault.{Fault}
 use Rattle.bt_lines.specs.declared.reader.line_reader.LineReader.{LineReader}
@@ -13,15 +13,15 @@ use Rattle.bt_bed.specs.declared.read.batch.Consumed.{Consumed}
 use Rattle.bt_bed.specs.calls.Blocks.{FillsBlocks, count_in, Lends, TakesBlocks, below, buffered_in as records_in, fault_kept, view_of}
 use Rattle.bt_bed.specs.model.Feature.{Feature}
 use Rattle.bt_bed.specs.model.BedLine.{fault_at_line}
-use Rattle.bt_bed.specs.calls.Reading.{BeginsComing, IsBeyond, AreSaid, MemberReader, good_behind, good_coming, members_from, state_behind, with_members}
+use Rattle.bt_bed.specs.calls.Reading.{BeginsComing, IsBeyond, AreSaid, MemberReader, Takes, coming, good_behind, good_coming, members_from, state_behind, with_members}
 use Rattle.bt_bed.specs.declared.read.batch.Batch.{Batch}
 use Rattle.bt_bed.specs.declared.read.blocks.Blocks.{Blocks}
 use Rattle.bt_tool.specs.inside.Feed.{HasTaken, ComeFirst, IsReadFor, PassesMembers, StopsAfter}
 use Rattle.bt_tool.proofs.lemmas.running.members.MemberLemmas.{IsFilled, IsOver, IsStopped, members_low}
 use Rattle.bt_tool.proofs.lemmas.running.members.PassedLemmas.{consumed_of}
-use Rattle.bt_lines.proofs.lemmas.reader.block.ReadsLemmas.{hands_both}
-use Rattle.bt_lines.proofs.lemmas.reader.lines.LeftLemmas.{is_prefix, made_left, taken_left}
-use Rattle.bt_lines.proofs.lemmas.reader.lines.TakingLemmas.{sound_near, near_next}
+use Rattle.bt_lines.proofs.lemmas.reader.block.ReadsLemmas.{hands_both, hands_none}
+use Rattle.bt_lines.proofs.lemmas.reader.lines.LeftLemmas.{DropsLines, is_prefix, made_left, near_left, taken_left}
+use Rattle.bt_lines.proofs.lemmas.reader.lines.TakingLemmas.{sound_near, near_next, prefix_of}
 use Rattle.bt_lines.specs.model.Fault.{FaultValue}
 use Rattle.bt_lines.specs.model.Lines.{TextLine}
 use Rattle.bt_lines.specs.calls.Line.{AreNumbered, line_feeds}
@@ -29,7 +29,8 @@ use Rattle.bt_lines.specs.calls.Output.{block_size}
 use Rattle.bt_lines.specs.declared.reader.buffered_lines.ConsumedLines.{ConsumedLines}
 use Rattle.bt_lines.specs.declared.fault.Kind.{Kind}
 use Rattle.bt_lines.specs.declared.fault.Kind.TheVariants.{TextBeforeHeader}
-use Rattle.bt_bed.proofs.lemmas.read.good.ReadingLemmas.{near_pass, drops_pass, left_numbered, some_bytes, Going, going_end, going_start, going_unread}
+use Rattle.bt_bed.proofs.lemmas.read.good.KnownLemmas.{begins_known, left_numbered, near_both, taken_known}
+use Rattle.bt_bed.proofs.lemmas.read.good.ReadingLemmas.{numbered_coming, some_bytes, Going, going_end, going_start, going_unread}
 use Rattle.bt_bed.specs.model.Good.{Good, Member, good_after}
 use Rattle.bt_seq.specs.calls.MaskStage.{SayEach}
 use Rattle.bt_seq.specs.model.Masked.{Reached, SequenceLine, sequence_says, sequence_format}
@@ -40,11 +41,6 @@ use Rattle.bt_tool.proofs.lemmas.running.feed.WritingLemmas.{lines_on, up_to}
 pub none_over : {S : Type 0} (reader : LineReader S) → has_ended reader ≡ true → buffered_in reader ≡ []
 unfolding has_ended is_open buffered_bytes
 none_over reader e = grind (arith, none_left)
-
--- a reader of records without a fault has a reader of lines without one
-pub blocks_going : {S : Type 0} (records : Blocks S) → fault_kept records ≡ None → line_fault (below records) ≡ None
-unfolding view_of view_with
-blocks_going records e = grind arith
 
 -- what was consumed of a batch is what was taken
 pub blocks_given : {S : Type 0} (records : Blocks S) (first last : Batch) (taken : List Feature) (consumed : Consumed) → Lends records first → PassesBatch first taken last → IsWhere last consumed → take (count_in records consumed) (records_in records) ≡ taken
@@ -62,18 +58,18 @@ lent_at records batch lends = lends.given
 
 module _ {S : Type 0} (device : Source S) (now new : Blocks S) where
   pub block_filled : FillsBlocks device now (Ok true) new → IsFilled device (view_of now) (view_of new)
-  block_filled fills = record { m = fills.answers.0; gives = fills.answers.1; kept = fills.kept; clear = blocks_going new }
+  block_filled fills = record { m = fills.answers.0; gives = fills.answers.1; kept = fills.kept }
 
   pub block_over : FillsBlocks device now (Ok false) new → IsOver device (view_of now) (view_of new)
-  block_over fills = record { ends = fills.answers; kept = fills.kept; clear = blocks_going new }
+  block_over fills = record { ends = fills.answers; kept = fills.kept }
 
   pub block_stopped : (fault : Fault) → FillsBlocks device now (Err fault) new → IsStopped device (view_of now) (fault_value fault) (view_of new)
   block_stopped fault fills = record { answers = fills.answers; kept = fills.kept }
 
 -- records were consumed of those that are buffered
 pub blocks_taken : {S : Type 0} (device : Source S) (now new : Blocks S) (count : ℕ) (records : List Feature) → take count (records_in now) ≡ records
-    → BeginsComing device.left (view_of now) → TakesBlocks device now count new → HasTaken device (view_of now) records (view_of new)
-blocks_taken device now new count records are comes takes = grind (arith, consumed_of, blocks_going)
+    → BeginsComing (view_of now) → TakesBlocks device now count new → HasTaken device (view_of now) records (view_of new)
+blocks_taken device now new count records are comes takes = consumed_of device (view_of now) (view_of new) records comes (subst (λ (l : List Feature). Takes device (view_of now) l (view_of new)) are takes.takes)
 
 -- Lemmas on a reader of lines as one of lines of sequences.
 
@@ -105,13 +101,11 @@ front_of [] more all e = (all, refl)
 front_of (x ∷ front) more [] e = cc
 front_of (x ∷ front) more (y ∷ all) e = grind (arith, (front_of front more all (cc)))
 
+drops_known : (a b : Option (List TextLine)) (count k : ℕ) → DropsLines a count b → k ≡ count → IfSome a (λ all. b ≡ Some (drop k all))
+drops_known a b count k d e = grind arith
+
 lines_same : (start now new : Option (List TextLine)) (given later : ℕ) → later ≡ given → IfSome start (λ lines. now ≡ Some (drop given lines)) → DropsLines now 0 new → IfSome start (λ lines. new ≡ Some (drop later lines))
 lines_same start now new given later e p s = grind arith
-
--- if no lines are known, none are once some were taken
-still_unknown : {S : Type 0} (left : S → Option (List ℕ)) (old new : LineReader S) → source_of new ≡ source_of old → lines_left left old ≡ None → lines_left left new ≡ None
-unfolding bytes_left
-still_unknown left old new same none = grind arith
 
 come_same : {A : Type 0} (old : Option (Good A)) (f g : List TextLine → Good A) (now new : Option (List TextLine)) (past : List (Member A)) → ((l : List TextLine) → f l ≡ g l) → DropsLines now 0 new
     → ComeFirst old past (option_map f now) → ComeFirst old past (option_map g new)
@@ -154,7 +148,7 @@ module _ {S : Type 0} (device : Source S) (full : Bool) where
           kept = kept g.kept;
           served = makes.served ∙ g.served;
           ahead = λ known m is. absurd (let apart : None ≡ Some m = is in cc);
-          near = near_pass (lines_left device.left old.below) (lines_left device.left new) (device.left (source_of new)) (lines_given new) 1 (suc (lines_given new)) lines_now (omega arith) (near_next device.left new);
+          near = near_both (lines_left device.left old.below) (lines_left device.left new) (device.left (source_of new)) (lines_given new) 1 (suc (lines_given new)) lines_now (omega arith) (near_left device new new (hands_none device new) 1 (near_next new));
         }
 
   -- the lines have ended
@@ -167,12 +161,15 @@ module _ {S : Type 0} (device : Source S) (full : Bool) where
       ends = going_end device (line_members full reached lines) (line_members full reached lines) (line_members full reached new) start ends refl refl (record { state = refl; format = refl })
           (λ same was. ap (line_members full reached) same);
       kept = kept;
-      clear = λ e. e;
     }
 
     -- or couldn't be read
     pub gives_unread : (fault : FaultValue) → GivesFault device lines fault new → IsStopped device (line_members full reached lines) fault (line_members full reached new)
-    gives_unread fault gives = grind (arith, going_unread, start)
+    gives_unread fault gives = record {
+      answers = going_unread device (line_members full reached lines) (line_members full reached lines) (line_members full reached new) fault start gives gives.kept refl (record { state = refl; format = refl })
+          (λ same was. ap (line_members full reached) same);
+      kept = kept;
+    }
 
   -- lines were taken
   module _ (reached : Reached) (lines new : LineReader S) (going : line_fault lines ≡ None) (texts more : List TextLine) (items : List SequenceLine) (say : SayEach full reached texts items)
@@ -180,27 +177,51 @@ module _ {S : Type 0} (device : Source S) (full : Bool) where
     abbrev pub reached_then : Reached
     reached_then = state_behind (sequence_format full) reached items
 
-    say_known : IfSome (lines_left device.left lines) (λ all. LinesSay (sequence_format full) reached all items)
-    say_known = say_by (lines_left device.left lines) (is_prefix device.left lines)
-      where
-        say_by : (all : Option (List TextLine)) → IfSome all (λ all. take (length (buffered_in lines)) all ≡ buffered_in lines) → IfSome all (λ all. LinesSay (sequence_format full) reached all items)
-        say_by None e = tt
-        say_by (Some all) e = say_front (sequence_format full) reached (buffered_in lines) all items e (subst (λ l. LinesSay (sequence_format full) reached l items) (sym parts) (say_lines full reached texts more items say))
-
-    lines_gone : DropsLines (lines_left device.left lines) (line_feeds (take consumed.bytes (buffered_bytes lines))) (lines_left device.left new)
-    lines_gone = taken_left device lines new consumed takes
-
     -- no more than those
     module _ (all : count ≡ length items) where
-      good_then : option_map (with_members (members_from (suc (lines_given lines)) items)) (good_coming device.left (line_members full reached_then new)) ≡ good_coming device.left (known_members reached items lines)
-      good_then = grind (arith, good_lines, left_numbered, say_known, still_unknown, good_said, lines_gone)
+      clear_then : line_fault new ≡ None
+      clear_then = takes.fault_is ∙ going
+
+      gone : (rest : List ℕ) → MayStillCome new rest → lines_coming rest new ≡ drop (length items) (lines_coming rest lines)
+      gone rest follows = takes.left_is rest follows ∙ ap (λ k. drop k (lines_coming rest lines)) (are.feeds ∙ all)
+
+      says_those : (rest : List ℕ) → MayStillCome new rest → LinesSay (sequence_format full) reached (lines_coming rest lines) items
+      says_those rest follows =
+          say_front (sequence_format full) reached (buffered_in lines) (lines_coming rest lines) items (prefix_of lines rest (λ told. follows (takes.told_is ∙ told)))
+          (subst (λ l. LinesSay (sequence_format full) reached l items) (sym parts) (say_lines full reached texts more items say))
+
+      good_then : (rest : List ℕ) → MayStillCome new rest
+          → coming rest (known_members reached items lines) ≡ with_members (members_from (suc (lines_given lines)) items) (coming rest (line_members full reached_then new))
+      unfolding coming
+      good_then rest follows =
+          rw (going, clear_then, takes.input_is, gone rest follows)
+          (sym (good_said (sequence_format full) (input_of lines) (suc (lines_given lines)) reached (lines_coming rest lines) items (numbered_coming lines rest) (says_those rest follows)))
+
+      taken : Takes device (known_members reached items lines) items (line_members full reached_then new)
+      taken = record {
+        buffered = sym (append-nil items);
+        said = say_said full reached texts items say;
+        state = refl;
+        good = good_then;
+        goes = takes.fault_is;
+        below_stays = takes.fault_is;
+        format = refl;
+        given = omega (arith, takes.given, are.given, all);
+        below = takes.below;
+        hands = takes.hands;
+        source = takes.source_is;
+        lines = λ rest follows. (let count_is : lines_given new - lines_given lines ≡ length items = omega (arith, takes.given, are.given, all) in rw count_is (gone rest follows));
+        kept = takes.kept;
+        near = λ some. takes.near (some_bytes consumed.bytes (buffered_bytes lines) (omega (arith, are.feeds, all, some)));
+        shrinks = omega (arith, takes.shrinks, takes.taken_is, are.feeds, all);
+      }
 
       pub has_taken : HasTaken device (known_members reached items lines) items (line_members full reached_then new)
-      has_taken = grind (arith, append-nil, say_said, good_lines, left_numbered, say_known, still_unknown, good_said, lines_gone)
+      has_taken = record { takes = taken; ahead = λ m is. absurd (let apart : None ≡ Some m = is in cc) }
 
       -- they were known to come
       pub passes_known : (old : MemberReader S SequenceLine Reached) (past : List (Member SequenceLine)) → PassesMembers device old past (line_members full reached lines) → PassesMembers device old past (known_members reached items lines)
-      passes_known old past g = grind (arith, good_lines, good_then)
+      passes_known old past g = grind (arith, good_lines, (taken_known device (known_members reached items lines) (line_members full reached_then new) taken))
 
   -- lines were taken, of which the last one is at fault
   module _ (old : MemberReader S SequenceLine Reached) (past : List (Member SequenceLine)) (reached : Reached) (lines new : LineReader S) (g : PassesMembers device old past (line_members full reached lines))
@@ -272,7 +293,7 @@ module _ {S : Type 0} (device : Source S) (full : Bool) where
     lines_then : IfSome (lines_left device.left old.below) (λ all. lines_left device.left new ≡ Some (drop (lines_given new) all))
     lines_then =
         lines_on (lines_left device.left old.below) (lines_left device.left lines) (lines_left device.left new) (lines_given lines) (lines_given new) (omega (arith, given_is)) g.lines
-        (drops_pass (lines_left device.left lines) (lines_left device.left new) _ (lines_given new - lines_given lines) (taken_left device lines new consumed takes) (omega (arith, takes.given, are.given, are.feeds)))
+        (drops_known (lines_left device.left lines) (lines_left device.left new) _ (lines_given new - lines_given lines) (taken_left device lines new consumed takes) (omega (arith, takes.given, are.given, are.feeds)))
 
     held_block : length (held new) ≤ block_size
     held_block = takes.near (some_bytes consumed.bytes (buffered_bytes lines) (omega (arith, are.feeds, length-append before (line ∷ []))))
@@ -289,8 +310,8 @@ module _ {S : Type 0} (device : Source S) (full : Bool) where
     refuses_read = record {
       to = record {
         count = count;
-        near = near_pass (lines_left device.left old.below) (lines_left device.left new) (device.left (source_of new)) (lines_given new) 0 (suc count) lines_then (omega (arith, given_is))
-            (sound_near device new (record { end = (takes.kept g.kept).end; within = (takes.kept g.kept).within; near = λ none. held_block }) clear);
+        near = near_both (lines_left device.left old.below) (lines_left device.left new) (device.left (source_of new)) (lines_given new) 0 (suc count) lines_then (omega (arith, given_is))
+            (near_left device new new (hands_none device new) 0 (λ rest follows. sound_near device new (record { end = (takes.kept g.kept).end; within = (takes.kept g.kept).within; near = λ none. held_block }) clear rest));
         behind = behind_by (good_coming device.left old) whole;
       };
       low = low_then;

@@ -3,7 +3,7 @@ use Rattle.bt_lines.proofs.Std.{common_steps, ◌≡◌, ℕ, zero, suc, ◌+◌
 use Rattle.bt_lines.proofs.lemmas.reader.block.BufferLemmas.{fed_clear, fed_drop, fed_last, fed_none, fed_push}
 use Rattle.bt_lines.proofs.lemmas.reader.lines.TextLemmas.{lines_from-fed, lines_from-last, lines_from-nil, spelled-fed, by_lines, lines_are_numbered, whole_lines_are_numbered, bytes_in-lines, line_feeds-append, line_feeds-fed, whole_count, whole_lines_from-fed, whole_lines_from-last, bytes_in-append, whole_front}
 use Rattle.bt_lines.proofs.lemmas.reader.lines.BufferedLemmas.{lines_taken}
-use Rattle.bt_lines.specs.calls.Reader.{BeginsLines, IsWhere, PassesLines, buffered_lines, lines_in, rest_in, TakenLines, buffered_bytes, is_open, lines_given, CutsOff, Hands, source_of, bytes_taken, feeds_taken, IsSound, fault_kept, input_of, lines_left}
+use Rattle.bt_lines.specs.calls.Reader.{BeginsLines, IsWhere, PassesLines, buffered_lines, lines_in, rest_in, TakenLines, buffered_bytes, is_open, lines_given, CutsOff, Hands, source_of, bytes_taken, feeds_taken, IsSound, fault_kept, input_of, lines_coming, lines_left}
 use Rattle.bt_lines.specs.model.Lines.{TextLine, bytes_in, fed_line, last_line, lines_from, spelled, whole_lines_from, Handed, whole_text, text_lines}
 use Rattle.bt_lines.specs.calls.Line.{AreNumbered, line_feeds}
 use Rattle.bt_lines.specs.inside.Shape.{IsLast, is_fed}
@@ -16,7 +16,8 @@ use Rattle.bt_lines.specs.declared.fault.Input.{Input}
 use Rattle.bt_tool.specs.calls.Inputs.{Reads, handed_by}
 use Rattle.bt_lines.specs.calls.Output.{block_size}
 use Rattle.bt_bed.specs.model.Good.{Format, Member, good, good_handed, Good}
-use Rattle.bt_bed.specs.calls.Reading.{IsBeyond, MemberReader, good_coming}
+use Rattle.bt_bed.specs.calls.Reading.{IsBeyond, MemberReader, coming, good_coming}
+use Rattle.bt_bed.proofs.lemmas.read.good.KnownLemmas.{start_known}
 use Rattle.bt_bed.proofs.lemmas.read.good.SaidLemmas.{first_from}
 use Rattle.bt_lines.specs.declared.fault.Kind.{Kind}
 use Rattle.bt_tool.specs.inside.Feed.{IsFresh, HasFaultBehind, IsUnreadBehind}
@@ -308,13 +309,15 @@ pub record BeginsAt {S A State : Type 0} (left : S → Option (List ℕ)) (forma
 -- a reader of members over a reader of lines that has given nothing
 module _ {S A State : Type 0} (device : Source S) {reader : LineReader S} (members : MemberReader S A State)
     (is : members.below ≡ reader) (taken : bytes_taken reader ≡ 0) (fed : feeds_taken reader ≡ 0) where
-  pub fresh_over : lines_given reader ≡ 0 → members.fault ≡ None → members.buffered ≡ [] → IsSound device reader → IsFresh device members
-  fresh_over given going none sound = grind arith
+  pub fresh_over : lines_given reader ≡ 0 → members.fault ≡ None → fault_kept reader ≡ None → members.buffered ≡ [] → IsSound device reader → IsFresh device members
+  fresh_over given going clear none sound = grind arith
 
   pub begins_over : {format : Format A State} {input : Input} {first : S} → source_of reader ≡ first → input_of reader ≡ input → fault_kept reader ≡ None
       → lines_left device.left reader ≡ option_map text_lines (device.left first)
-      → (fault_kept reader ≡ None → good_coming device.left members ≡ option_map (good format (input_of reader)) (lines_left device.left reader)) → BeginsAt device.left format input first members
-  begins_over source same going lines known = grind arith
+      → (fault_kept reader ≡ None → (rest : List ℕ) → coming rest members ≡ good format (input_of reader) (lines_coming rest reader)) → BeginsAt device.left format input first members
+  begins_over {format} source same going lines known =
+      let there = start_known device members (good format (input_of reader)) (λ rest. known going rest ∙ ap (λ r. good format (input_of reader) (lines_coming rest r)) (sym is)) in
+      grind arith
 
 module _ {S A State : Type 0} (device : Source S) {format : Format A State} {input : Input} {first : S} (old : MemberReader S A State) (begins : BeginsAt device.left format input first old)
     (new : MemberReader S A State) {last : S} (ended : source_of new.below ≡ last) where

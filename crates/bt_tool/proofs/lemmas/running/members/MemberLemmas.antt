@@ -1,10 +1,11 @@
 -- What a reader that was filled has become.
-use Rattle.bt_lines.proofs.Std.{◌≡◌, None, IfSome_then, ℕ, suc, ◌+◌, ◌-◌, ◌≤◌, Bool, true, false, List, [], ◌∷◌, ◌++◌, length, take, drop, Option, Some, Err, refl, sym, ap, ◌∙◌, subst, append_assoc, arith, inl, inr, ◌⊎◌, All, IfSome, IsSome, option_map, drop-drop, length-append, length-drop, map-append, take-append-drop, All-append, All-nil, Ok, All-push, rules}
+use Rattle.bt_lines.proofs.Std.{◌≡◌, None, IfSome_then, ℕ, suc, ◌+◌, ◌-◌, ◌≤◌, Bool, true, false, List, [], ◌∷◌, ◌++◌, length, take, drop, Option, Some, Err, refl, sym, ap, ◌∙◌, subst, append_assoc, append-nil, arith, inl, inr, ◌⊎◌, All, IfSome, IsSome, option_map, drop-drop, length-append, length-drop, map-append, take-append-drop, All-append, All-nil, Ok, All-push, rules}
 use Rattle.bt_lines.specs.declared.device.Source.{Ghosts as Source}
 use Rattle.bt_lines.specs.model.Fault.{FaultValue, read_failed}
 use Rattle.bt_lines.specs.calls.Reader.{IsKept, fault_kept as line_fault, Hands, bytes_left, end_told, has_ended, held, left_at, source_of, input_of, lines_given, lines_left, GivesLine}
 use Rattle.bt_bed.specs.model.Good.{Member, Format, Good, ends_with, good_after}
-use Rattle.bt_bed.specs.calls.Reading.{AnswersFault, EndsMembers, GivesMember, MemberReader, IsBeyond, AreSaid, Cause, ahead_in, first_from, good_coming, members_from, state_behind, LinesPass}
+use Rattle.bt_bed.specs.model.BedLine.{fault_at_line}
+use Rattle.bt_bed.specs.calls.Reading.{AnswersFault, EndsMembers, GivesMember, MemberReader, IsBeyond, AreSaid, Cause, ahead_in, first_from, good_coming, members_from, state_behind}
 use Rattle.bt_lines.specs.model.Lines.{TextLine, bytes_in, lines_from}
 use Rattle.bt_lines.specs.calls.Output.{block_size}
 use Rattle.bt_lines.specs.declared.fault.Input.{Input}
@@ -12,14 +13,14 @@ use Rattle.bt_lines.specs.declared.fault.Kind.{Kind}
 use Rattle.bt_lines.specs.declared.reader.line_reader.LineReader.{LineReader}
 use Rattle.bt_lines.specs.inside.ReadBuffer.{unread}
 use Rattle.bt_lines.proofs.lemmas.reader.block.ReadsLemmas.{hands_none, hands_both}
-use Rattle.bt_lines.proofs.lemmas.reader.lines.LeftLemmas.{given_left}
+use Rattle.bt_lines.proofs.lemmas.reader.lines.LeftLemmas.{GivesFirst, given_left, near_left}
 use Rattle.bt_lines.proofs.lemmas.reader.lines.TakingLemmas.{sound_near}
 use Rattle.bt_lines.proofs.lemmas.reader.lines.TextLemmas.{bytes_in-append}
 use Rattle.bt_tool.specs.inside.Feed.{IsFresh, AreAll, ComeFirst, HasFaultBehind, HasTaken, IsReadFor, LacksMemory, PassesMembers, StopsAfter, member_items}
-use Rattle.bt_bed.proofs.lemmas.read.good.ReadingLemmas.{near_pass, LineCame}
+use Rattle.bt_bed.proofs.lemmas.read.good.ReadingLemmas.{LineCame, one_passes}
+use Rattle.bt_bed.proofs.lemmas.read.good.KnownLemmas.{first_known, good_known, lines_known, near_both, near_known, no_lines_known, none_comes_known, none_left_known, nothing_known, taken_known, wrong_known}
 use Rattle.bt_tool.proofs.lemmas.running.feed.WritingLemmas.{begins_beyond, begins_with, cuts_both, lines_on, near_from_start, up_to}
 use Rattle.bt_tool.proofs.lemmas.running.pair.StopLemmas.{beyond_now, stops_faulty, coming_is}
-use Rattle.bt_lines.specs.calls.Line.{GivesFirst}
 
 module _ {S A State : Type 0} (device : Source S) where
   -- the reader has a member buffered
@@ -27,13 +28,11 @@ module _ {S A State : Type 0} (device : Source S) where
     pub m : Member A
     pub gives : GivesMember device old m new
     pub kept : IsKept device old.below → IsKept device new.below
-    pub clear : new.fault ≡ None → line_fault new.below ≡ None
 
   -- it has given all members
   pub record IsOver (old new : MemberReader S A State) : Type 0 where
     pub ends : EndsMembers device old new
     pub kept : IsKept device old.below → IsKept device new.below
-    pub clear : new.fault ≡ None → line_fault new.below ≡ None
 
   -- it reports a fault
   pub record IsStopped (old : MemberReader S A State) (fault : FaultValue)
@@ -131,7 +130,7 @@ near_more (Some lines) (Some rest) count more up h =
 near_none : (start now : Option (List TextLine)) (rest : Option (List ℕ)) (given count : ℕ) → given ≤ count → IfSome start (λ lines. now ≡ Some (drop given lines))
     → IfSome now (λ lines. drop (count - given) lines ≡ []) → IfSome start (λ lines. IfSome rest (λ rest. bytes_in (drop (suc count) lines) ≤ length rest + block_size))
 near_none start now rest given count h p e =
-    near_pass start now rest given (suc count - given) (suc count) p (omega arith) (IfSome_then now e (λ lines none. near_done lines rest (count - given) (suc count - given) (omega arith) none))
+    near_both start now rest given (suc count - given) (suc count) p (omega arith) (IfSome_then now e (λ lines none. near_done lines rest (count - given) (suc count - given) (omega arith) none))
   where
     near_done : (lines : List TextLine) (rest : Option (List ℕ)) (count more : ℕ) → more ≡ count + 1 → drop count lines ≡ [] → IfSome rest (λ rest. bytes_in (drop more lines) ≤ length rest + block_size)
     near_done lines None count more same none = tt
@@ -141,7 +140,12 @@ near_none start now rest given count h p e =
 pub near_given : (start now : Option (List TextLine)) (rest : Option (List ℕ)) (given : ℕ) → IfSome start (λ lines. now ≡ Some (drop given lines))
     → IfSome now (λ lines. IfSome rest (λ rest. bytes_in lines ≤ length rest + block_size))
     → IfSome start (λ lines. IfSome rest (λ rest. bytes_in (drop given lines) ≤ length rest + block_size))
-near_given start now rest given p n = near_pass start now rest given 0 given p (omega arith) n
+near_given start now rest given p n = near_both start now rest given 0 given p (omega arith) n
+
+-- a line at fault comes after the members that were taken
+all_behind : {A : Type 0} (old now : Option (Good A)) (past : List (Member A)) (fault : FaultValue) → ComeFirst old past now → IfSome now (λ good. good ≡ ends_with (Some fault))
+    → IfSome old (λ good. (good.members ≡ past) × (good.fault ≡ Some fault))
+all_behind old now past fault come wrong = grind (arith, append-nil)
 
 -- the last of some members lies after those lines too, and so does what comes after it
 pub behind_last : {A : Type 0} (count : ℕ) (old : Option (Good A)) (past : List (Member A)) (m : Member A) → suc count ≡ m.line
@@ -151,8 +155,8 @@ behind_last count old past m at b = grind (arith, append_assoc)
 
 module _ {S A State : Type 0} (device : Source S) (old : MemberReader S A State) where
   -- before the first record
-  pub passes_start : IsFresh device old → line_fault old.below ≡ None → PassesMembers device old [] old
-  passes_start fresh clear = record {
+  pub passes_start : IsFresh device old → PassesMembers device old [] old
+  passes_start fresh = record {
     format = refl;
     bytes = ([], hands_none device old.below);
     said = tt;
@@ -161,11 +165,11 @@ module _ {S A State : Type 0} (device : Source S) (old : MemberReader S A State)
     behind = λ k d h. absurd (omega arith);
     lines = grind arith;
     going = fresh.going;
-    clear = clear;
+    clear = fresh.clear;
     kept = record { end = fresh.sound.end; within = fresh.sound.within };
     served = refl;
     ahead = λ known m is. absurd (nothing_ahead old m fresh.none_buffered is);
-    near = near_more (lines_left device.left old.below) (device.left (source_of old.below)) 0 (suc (lines_given old.below)) (omega arith) (sound_near device old.below fresh.sound clear);
+    near = near_more (lines_left device.left old.below) (device.left (source_of old.below)) 0 (suc (lines_given old.below)) (omega arith) (near_left device old.below old.below (hands_none device old.below) 0 (λ rest follows. sound_near device old.below fresh.sound fresh.clear rest));
   }
 
   module _ (past : List (Member A)) (now : MemberReader S A State) (g : PassesMembers device old past now) where
@@ -180,17 +184,17 @@ module _ {S A State : Type 0} (device : Source S) (old : MemberReader S A State)
           format = gives.stays.format ∙ g.format;
           bytes = bytes_more new gives.stays.bytes;
           said = g.said;
-          come = grind arith;
+          come = grind (arith, (good_known device now new gives));
           behind = up_to (lines_given now.below) (lines_given new.below) past gives.rises g.behind;
-          lines = lines_on (lines_left device.left old.below) (lines_left device.left now.below) (lines_left device.left new.below) (lines_given now.below) (lines_given new.below) gives.rises g.lines gives.lines;
+          lines = lines_on (lines_left device.left old.below) (lines_left device.left now.below) (lines_left device.left new.below) (lines_given now.below) (lines_given new.below) gives.rises g.lines (lines_known device now.below new.below gives.stays.bytes.1 gives.lines);
           state = gives.state ∙ g.state;
           going = gives.goes ∙ g.going;
-          clear = fills.clear (gives.goes ∙ g.going);
+          clear = gives.below_goes;
           kept = fills.kept g.kept;
           served = gives.served ∙ g.served;
           ahead = λ known m is. let same : fills.m ≡ m = one_ahead gives.ahead is in subst (λ (m : Member A). IfSome (good_coming device.left new) (λ good. (rest : List (Member A)) × (good.members ≡ m ∷ rest))) same
-              (grind arith);
-          near = near_from_start (lines_left device.left old.below) (lines_left device.left now.below) (device.left (source_of new.below)) (lines_given now.below) (lines_given new.below) gives.rises g.lines gives.near;
+              (grind (arith, (good_known device now new gives), (first_known device now new gives)));
+          near = near_from_start (lines_left device.left old.below) (lines_left device.left now.below) (device.left (source_of new.below)) (lines_given now.below) (lines_given new.below) gives.rises g.lines (near_known device now.below new.below gives.stays.bytes.1 gives.near);
         }
 
     -- members were taken
@@ -206,15 +210,15 @@ module _ {S A State : Type 0} (device : Source S) (old : MemberReader S A State)
           said = rw items (said_more old.format old.state (member_items past) taken g.said
               (subst (λ (f : Format A State). AreSaid f (state_behind old.format old.state (member_items past)) taken) g.format
               (subst (λ (s : State). AreSaid now.format s taken) g.state takes.said)));
-          come = grind (arith, append_assoc);
+          come = grind (arith, append_assoc, (taken_known device now new takes));
           behind = All-append (λ (m : Member A). m.line ≤ lines_given new.below) past (members_from (suc (lines_given now.below)) taken)
               (up_to (lines_given now.below) (lines_given new.below) past rises g.behind)
               (up_to (lines_given now.below + length taken) (lines_given new.below) (members_from (suc (lines_given now.below)) taken) (omega (arith, takes.given)) (members_low (lines_given now.below) taken));
-          lines = lines_on (lines_left device.left old.below) (lines_left device.left now.below) (lines_left device.left new.below) (lines_given now.below) (lines_given new.below) rises g.lines takes.lines;
+          lines = lines_on (lines_left device.left old.below) (lines_left device.left now.below) (lines_left device.left new.below) (lines_given now.below) (lines_given new.below) rises g.lines (lines_known device now.below new.below takes.hands takes.lines);
           state = takes.state ∙ ap (λ (f : Format A State). state_behind f now.state taken) g.format ∙ ap (λ (s : State). state_behind old.format s taken) g.state
               ∙ sym (state_more old.format old.state (member_items past) taken) ∙ ap (state_behind old.format old.state) (sym items);
           going = takes.goes ∙ g.going;
-          clear = has.clear (takes.goes ∙ g.going);
+          clear = takes.below_stays ∙ g.clear;
           kept = takes.kept g.kept;
           served = ap device.has_failed takes.source ∙ g.served;
           ahead = λ known. has.ahead;
@@ -223,7 +227,7 @@ module _ {S A State : Type 0} (device : Source S) (old : MemberReader S A State)
 
     -- the input has ended
     pub passes_all : (new : MemberReader S A State) → IsOver device now new → AreAll device old past
-    passes_all new ended = search rules
+    passes_all new ended = grind (arith, append-nil, (none_left_known device now new ended.ends))
 
     pub passes_end : (new : MemberReader S A State) → IsOver device now new → PassesMembers device old past new
     passes_end new ended = record {
@@ -231,18 +235,18 @@ module _ {S A State : Type 0} (device : Source S) (old : MemberReader S A State)
       bytes = bytes_more new ended.ends.stays.bytes;
       said = g.said;
       come = come_end (good_coming device.left old) (good_coming device.left now) (good_coming device.left new) past g.come
-          (coming_known device now new ended.ends.stays.bytes.0 ended.ends.stays.bytes.1) ended.ends.none_left ended.ends.none_comes;
+          (coming_known device now new ended.ends.stays.bytes.0 ended.ends.stays.bytes.1) (none_left_known device now new ended.ends) (none_comes_known device now new ended.ends);
       behind = up_to (lines_given now.below) (lines_given new.below) past ended.ends.rises g.behind;
       lines = lines_on (lines_left device.left old.below) (lines_left device.left now.below) (lines_left device.left new.below) (lines_given now.below) (lines_given new.below) ended.ends.rises g.lines
           (lines_end (lines_left device.left now.below) (lines_left device.left new.below) (lines_given new.below - lines_given now.below)
-          (λ k. none_left_told device.left new.below ended.ends.told ended.ends.ends (bytes_known device now.below new.below ended.ends.stays.bytes.0 ended.ends.stays.bytes.1 k)) ended.ends.lines);
+          (λ k. none_left_told device.left new.below ended.ends.told ended.ends.ends (bytes_known device now.below new.below ended.ends.stays.bytes.0 ended.ends.stays.bytes.1 k)) (no_lines_known device now new ended.ends));
       state = ended.ends.state ∙ g.state;
       going = ended.ends.goes;
-      clear = ended.clear ended.ends.goes;
+      clear = ended.ends.below_goes;
       kept = ended.kept g.kept;
       served = ended.ends.served ∙ g.served;
       ahead = λ known m is. absurd (nothing_ahead new m ended.ends.none_buffered is);
-      near = near_none (lines_left device.left old.below) (lines_left device.left now.below) (device.left (source_of new.below)) (lines_given now.below) (lines_given new.below) ended.ends.rises g.lines ended.ends.lines;
+      near = near_none (lines_left device.left old.below) (lines_left device.left now.below) (device.left (source_of new.below)) (lines_given now.below) (lines_given new.below) ended.ends.rises g.lines (no_lines_known device now new ended.ends);
     }
 
     -- nothing is read after the end
@@ -250,16 +254,24 @@ module _ {S A State : Type 0} (device : Source S) (old : MemberReader S A State)
     fails_before_end new fault stopped input line e = grind arith
 
     module _ (kinds : Kind → Type 0) (of_format : (state : State) (line : TextLine) (kind : Kind) → old.format.says state line ≡ Err kind → kinds kind) where
-      cause_of : (new : MemberReader S A State) (fault : FaultValue) → IsKept device new.below → AnswersFault device now fault new
-          → Cause device now fault new
+      cause_of : (new : MemberReader S A State) (fault : FaultValue) → IsKept device new.below → (answers : AnswersFault device now fault new)
+          → Cause device now answers.stays.bytes.0 fault new
           → HasFaultBehind device old kinds past fault new ⊎ LacksMemory device old fault new
-      cause_of new fault kept answers (inl at) = grind (arith, rules)
+      cause_of new fault kept answers (inl at) = inl (inl (record {
+        whole = all_behind (good_coming device.left old) (good_coming device.left now) past fault g.come (wrong_known device now new answers.stays.bytes.1 at);
+        line = lines_given new.below;
+        kind = at.kind;
+        is = at.place ∙ ap (λ input. fault_at_line input (lines_given new.below) at.kind) (g.bytes.1.same_input);
+        of_kind = of_format now.state at.line at.kind (subst (λ (f : Format A State). f.says now.state at.line ≡ Err at.kind) g.format at.says);
+        served = at.served ∙ g.served;
+        within = kept.within at.going;
+      }))
       cause_of new fault kept answers (inr (inl unread)) = inl (inr (record {
         is = unread.fails.is ∙ ap (λ input. read_failed input (suc (lines_given new.below))) (g.bytes.1.same_input);
         kept = answers.kept;
         cause = unread.fails.cause;
         cut = cuts_both device old.below now.below new.below g.bytes.0 g.bytes.1 unread.fails.before_end (g.kept.within g.clear) (unread.fails.cut g.kept);
-        members = begins_beyond (good_coming device.left old) (good_coming device.left now) past (lines_given new.below) g.come unread.passed;
+        members = begins_beyond (good_coming device.left old) (good_coming device.left now) past (lines_given new.below) g.come (nothing_known device now new answers.stays.bytes.1 unread.passed);
         behind = up_to (lines_given now.below) (lines_given new.below) past answers.rises g.behind;
       }))
       cause_of new fault kept answers (inr (inr ran)) = inr (record { is = ran.is; served = ran.served ∙ g.served })
@@ -284,7 +296,7 @@ module _ {S A State : Type 0} (device : Source S) (old : MemberReader S A State)
 
     -- and there are no more lines at its end
     pub ended_after_all : (new : MemberReader S A State) → IsOver device now new → IfSome (lines_left device.left old.below) (λ lines. length lines ≤ lines_given new.below)
-    ended_after_all new over = no_more (lines_left device.left old.below) (lines_left device.left now.below) (lines_given now.below) (lines_given new.below) over.ends.rises g.lines over.ends.lines
+    ended_after_all new over = no_more (lines_left device.left old.below) (lines_left device.left now.below) (lines_given now.below) (lines_given new.below) over.ends.rises g.lines (no_lines_known device now new over.ends)
 
     -- if it stops at a fault
     pub read_at_stop : (new : MemberReader S A State) (fault : FaultValue) → IsStopped device now fault new → IsReadFor device old past past new
@@ -322,7 +334,8 @@ module _ {S A State : Type 0} (device : Source S) (old : MemberReader S A State)
         let size = length-append xs (a ∷ []) in
         let count = lines_given now.below + length xs in
         let given : suc count ≡ lines_given new.below = omega (arith, has.takes.given, size) in
-        let near = sound_near device new.below (record { end = p.kept.end; within = p.kept.within; near = λ none. has.takes.near (omega (arith, size)) }) p.clear in
+        let near = near_left device new.below new.below (hands_none device new.below) 0
+        (λ rest follows. sound_near device new.below (record { end = p.kept.end; within = p.kept.within; near = λ none. has.takes.near (omega (arith, size)) }) p.clear rest) in
         record {
           to = record {
             count = count;
@@ -349,7 +362,18 @@ read_alone {S} {A} {State} {device} {old} {past} {given} {now} read = record {
 
 -- a line that was given came
 pub came : {S : Type 0} (device : Source S) (old new : LineReader S) (line : TextLine) → GivesLine device old line new → LineCame device old line new
-came device old new line gives = grind (arith, (given_left device old new line gives))
+came device old new line gives = record {
+  bytes = (gives.bytes.0, gives.bytes.1);
+  first = gives.bytes.3;
+  number = gives.number;
+  counted = gives.counted;
+  below = gives.below;
+  shrinks = gives.shrinks;
+  served = gives.served;
+  was_going = gives.was_going;
+  goes = gives.goes;
+  near = gives.ahead;
+}
 
 module _ {A State : Type 0} (format : Format A State) (input : Input) (state : State) where
   none_comes : (old : Option (Good A)) (a b : Option (List TextLine)) (line : TextLine) (past : List (Member A)) → ComeFirst old past (option_map (good_after format input state) a) → GivesFirst a line b
@@ -364,8 +388,8 @@ module _ {A State : Type 0} (format : Format A State) (input : Input) (state : S
 
 module _ {S A State : Type 0} {device : Source S} {old now : MemberReader S A State} {past : List (Member A)} (g : PassesMembers device old past now) (new : MemberReader S A State) {line : TextLine}
     (gives : GivesLine device now.below line new.below) (kept : IsKept device now.below → IsKept device new.below) (format : new.format ≡ now.format) (none : new.buffered ≡ []) (going : new.fault ≡ None) where
-  lines_pass : LinesPass device.left now.below new.below
-  lines_pass = grind (arith, (given_left device now.below new.below line gives))
+  lines_pass : IfSome (lines_left device.left now.below) (λ lines. lines_left device.left new.below ≡ Some (drop (lines_given new.below - lines_given now.below) lines))
+  lines_pass = lines_known device now.below new.below gives.bytes.1 (one_passes now.below new.below gives.bytes.0 line gives.bytes.3 gives.counted)
 
   rises : lines_given now.below ≤ lines_given new.below
   rises = omega (arith, gives.counted)
@@ -378,7 +402,7 @@ module _ {S A State : Type 0} {device : Source S} {old now : MemberReader S A St
   near_line =
       let was = kept g.kept in
       near_given (lines_left device.left old.below) (lines_left device.left new.below) (device.left (source_of new.below)) (lines_given new.below) lines
-      (sound_near device new.below (record { end = was.end; within = was.within; near = λ fine. gives.ahead }) gives.goes)
+      (near_left device new.below new.below (hands_none device new.below) 0 (λ rest follows. sound_near device new.below (record { end = was.end; within = was.within; near = λ fine. gives.ahead }) gives.goes rest))
 
   coming_before : good_coming device.left now ≡ option_map (good_after now.format (input_of now.below) now.state) (lines_left device.left now.below)
   coming_before = coming_is device.left now g.going

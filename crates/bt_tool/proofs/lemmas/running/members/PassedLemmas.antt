@@ -15,14 +15,10 @@ use Rattle.bt_bed.specs.calls.Records.{FillsRecords, TakesRecords, below, buffer
 use Rattle.bt_bed.specs.declared.order.ChromOrder.{Ghosts}
 use Rattle.bt_bed.specs.declared.read.records.Records.{Records}
 use Rattle.bt_bed.proofs.lemmas.read.batch.RecordsLemmas.{said_behind}
+use Rattle.bt_bed.proofs.lemmas.read.good.KnownLemmas.{begins_known, taken_known}
 use Rattle.bt_bed.proofs.lemmas.order.OrderLemmas.{last_of-push, grows_placed}
 use Rattle.bt_tool.specs.inside.Feed.{AreInOrder, HasTaken}
 use Rattle.bt_tool.proofs.lemmas.running.members.MemberLemmas.{IsFilled, IsOver, IsStopped}
-
--- a reader of records without a fault has a reader of lines without one
-pub line_going : {S O : Type 0} {ghosts : Ghosts O} (records : Records S O ghosts) → fault_kept records ≡ None → line_fault (below records) ≡ None
-unfolding view_of view_with
-line_going records e = grind arith
 
 -- ---- what is buffered comes next
 
@@ -39,30 +35,29 @@ comes_next from given now next taken left m at b e f = grind (arith, members_spl
 
 module _ {S O : Type 0} {ghosts : Ghosts O} (device : Source S) (now new : Records S O ghosts) where
   pub is_filled : FillsRecords device now (Ok true) new → IsFilled device (view_of now) (view_of new)
-  is_filled fills = record { m = fills.answers.0; gives = fills.answers.1; kept = fills.kept; clear = line_going new }
+  is_filled fills = record { m = fills.answers.0; gives = fills.answers.1; kept = fills.kept }
 
   pub is_over : FillsRecords device now (Ok false) new → IsOver device (view_of now) (view_of new)
-  is_over fills = record { ends = fills.answers; kept = fills.kept; clear = line_going new }
+  is_over fills = record { ends = fills.answers; kept = fills.kept }
 
   pub is_stopped : (fault : Fault) → FillsRecords device now (Err fault) new → IsStopped device (view_of now) (fault_value fault) (view_of new)
   is_stopped fault fills = record { answers = fills.answers; kept = fills.kept }
 
 module _ {S State : Type 0} (device : Source S) (now new : MemberReader S Feature State) (records : List Feature) where
   -- records were consumed of those that are buffered
-  pub consumed_of : (new.fault ≡ None → line_fault new.below ≡ None) → BeginsComing device.left now → Takes device now records new → HasTaken device now records new
-  consumed_of clear comes takes = record {
+  pub consumed_of : BeginsComing now → Takes device now records new → HasTaken device now records new
+  consumed_of comes takes = record {
     takes = takes;
-    clear = clear;
     ahead = λ m is.
         comes_next (suc (lines_given now.below)) (suc (lines_given new.below)) (good_coming device.left now) (good_coming device.left new) records new.buffered m (omega (arith, takes.given))
-        (subst (λ (l : List Feature). IfSome (good_coming device.left now) (λ good. (rest : List (Member Feature)) × (good.members ≡ members_from (suc (lines_given now.below)) l ++ rest))) takes.buffered comes)
-        takes.good is;
+        (subst (λ (l : List Feature). IfSome (good_coming device.left now) (λ good. (rest : List (Member Feature)) × (good.members ≡ members_from (suc (lines_given now.below)) l ++ rest))) takes.buffered (begins_known device now comes))
+        (taken_known device now new takes) is;
   }
 
 pub has_taken : {S O : Type 0} {ghosts : Ghosts O} (device : Source S) (now new : Records S O ghosts) (count : ℕ) (records : List Feature) → take count (buffered_in now) ≡ records
-    → BeginsComing device.left (view_of now) → TakesRecords device now count new → HasTaken device (view_of now) records (view_of new)
+    → BeginsComing (view_of now) → TakesRecords device now count new → HasTaken device (view_of now) records (view_of new)
 has_taken device now new count records are comes takes =
-    consumed_of device (view_of now) (view_of new) records (line_going new) comes (subst (λ (l : List Feature). Takes device (view_of now) l (view_of new)) are takes.takes)
+    consumed_of device (view_of now) (view_of new) records comes (subst (λ (l : List Feature). Takes device (view_of now) l (view_of new)) are takes.takes)
 
 -- ---- the order of records that were consumed
 

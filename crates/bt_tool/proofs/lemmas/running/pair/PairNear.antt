@@ -202,7 +202,7 @@ module _ {S O : Type 0} {g : Ghosts O} (now : Records S O g) {batch : Batch} (le
     unfolding view_of view_with
     records_are = taken_are now.sorted batch last records consumed lends passes is
 
-    module _ {device : Source S} (comes : BeginsComing device.left (view_of now)) (new : Records S O g) (takes : TakesRecords device now (count_in now consumed) new) where
+    module _ {device : Source S} (comes : BeginsComing (view_of now)) (new : Records S O g) (takes : TakesRecords device now (count_in now consumed) new) where
       pub taken_of : HasTaken device (view_of now) records (view_of new)
       taken_of = has_taken device now new (count_in now consumed) records records_are comes takes
 
@@ -220,7 +220,7 @@ module _ {S O : Type 0} {g : Ghosts O} (now : Records S O g) {batch : Batch} (le
 
 -- the reader consumed what was given of the batch
 pub consumes_given : {S O : Type 0} {g : Ghosts O} (now : Records S O g) (batch : Batch) (lends : Lends now batch) (last : Batch) (records : List Feature) → Passes batch records last → (consumed : Consumed) → IsWhere last consumed
-    → (device : Source S) → BeginsComing device.left (view_of now) → (new : Records S O g) → TakesRecords device now (count_in now consumed) new → ConsumesGiven device now batch last new
+    → (device : Source S) → BeginsComing (view_of now) → (new : Records S O g) → TakesRecords device now (count_in now consumed) new → ConsumesGiven device now batch last new
 consumes_given now batch lends last records passes consumed is device comes new takes = record {
   takes = λ records passes. taken_of now lends passes is comes new takes;
   left_is = left_then now lends passes is comes new takes;

@@ -231,7 +231,21 @@ module _ {A B X Y U V : Type 0} {join : JoinDef X Y} {pair : Pair A B X Y U V} {
   -- a member of the second is
   pub fills_second : stage.second_ended ≡ false → (second_now : MemberReader B Y V) → IsFilled pair.source_b second second_now
       → Comes join pair out stage past_first past_second first second_now grown
-  fills_second going second_now filled = grind (arith, (passes_fill pair.source_b pair.second past_second second s.second_passes second_now filled), seen_by)
+  fills_second going second_now filled = record {
+    first_passes = s.first_passes;
+    second_passes = passes_fill pair.source_b pair.second past_second second s.second_passes second_now filled;
+    all_given = s.all_given;
+    all_taken = s.all_taken;
+    bytes = s.bytes;
+    settles = λ known.
+        let was = subst (λ b. SettlesPair join stage.written s.bytes (stage.taken ++ option_to_list (item_ahead second)) b) going (s.settles known) in
+        let seen = seen_by join pair.source_b second second_now filled.m (ahead_in second) refl filled.gives stage.written s.bytes stage.taken was in
+        rw (filled.gives.ahead, going) seen;
+    first_all = s.first_all;
+    second_all = λ e. absurd (false≢true (sym going ∙ e));
+    put = s.put;
+    near_first = s.near_first;
+  }
 
   -- more members of both were taken, after their ends none, and these bytes were put for those that are written now
   module _ {more_first : List (Member X)} {more_second : List (Member Y)} {first_now : MemberReader A X U} {second_now : MemberReader B Y V}

@@ -10,10 +10,13 @@ use Rattle.bt_lines.specs.calls.Reader.{IsKept, held, input_of, lines_given, lin
 use Rattle.bt_lines.specs.declared.fault.Input.{Input}
 use Rattle.bt_lines.specs.declared.fault.Kind.{Kind}
 use Rattle.bt_lines.specs.declared.reader.line_reader.LineReader.{LineReader}
+use Rattle.bt_lines.proofs.lemmas.reader.block.ReadsLemmas.{hands_none}
+use Rattle.bt_lines.proofs.lemmas.reader.lines.LeftLemmas.{near_left}
 use Rattle.bt_lines.proofs.lemmas.reader.lines.TakingLemmas.{sound_near}
+use Rattle.bt_bed.proofs.lemmas.read.good.KnownLemmas.{lines_known, near_known, nothing_known, unkept_known, wrong_known}
 use Rattle.bt_lines.proofs.lemmas.reader.lines.TextLemmas.{lines_are_numbered}
 use Rattle.bt_bed.specs.model.Good.{Format, Good, Member, ends_with, good_after, good_with}
-use Rattle.bt_bed.specs.calls.Reading.{AreAscending, IsBeyond, IsFaultBeyond, AnswersFault, LastUnkept, LineIsWrong, LinesPass, MemberReader, SaidNothing, good_behind, good_coming}
+use Rattle.bt_bed.specs.calls.Reading.{AreAscending, Cause, IsBeyond, IsFaultBeyond, AnswersFault, LastUnkept, LineIsWrong, MemberReader, SaidNothing, good_behind, good_coming}
 use Rattle.bt_bed.specs.model.BedLine.{fault_at_line}
 use Rattle.bt_bed.proofs.lemmas.read.good.SaidLemmas.{ascend_from, beyond_from}
 
@@ -109,17 +112,18 @@ beyond_end {A} count fault good h e = IfSome_then good e (λ good is. subst (IsB
 module _ {S A State : Type 0} (device : Source S) (old : MemberReader S A State) (going : old.fault ≡ None) (kept : IsKept device old.below) where
   -- before a line that is the last one given
   before_line : (new : LineReader S) → (count : ℕ) → suc count ≡ lines_given new → lines_given old.below ≤ count → IfSome (good_coming device.left old) (IsBeyond count)
-      → LinesPass device.left old.below new → IsKept device new → line_fault new ≡ None → length (held new) ≤ block_size
+      → IfSome (lines_left device.left old.below) (λ lines. lines_left device.left new ≡ Some (drop (lines_given new - lines_given old.below) lines)) → IsKept device new → line_fault new ≡ None → length (held new) ≤ block_size
       → StopsBehind device.left old count new
-  before_line new count at from passed lines next clear near = grind (arith, (sound_near device new (record { end = next.end; within = next.within; near = λ none. near }) clear))
+  before_line new count at from passed lines next clear near =
+      grind (arith, (near_left device new new (hands_none device new) 0 (λ rest follows. sound_near device new (record { end = next.end; within = next.within; near = λ none. near }) clear rest)))
 
   -- at a line that wasn't given
   stops_unread : (new : MemberReader S A State) (fault : FaultValue) → AnswersFault device old fault new → IfSome (good_coming device.left old) (IsBeyond (lines_given new.below))
       → (count : ℕ) × StopsBehind device.left old count new.below
-  stops_unread new fault answers passed = (lines_given new.below, record { passed = passed; from = answers.rises; near = answers.near going kept })
+  stops_unread new fault answers passed = (lines_given new.below, record { passed = passed; from = answers.rises; near = near_known device old.below new.below answers.stays.bytes.1 (answers.near going) })
 
   -- at a line that was given and is at fault
-  stops_wrong : (new : MemberReader S A State) (fault : FaultValue) → AnswersFault device old fault new → IsKept device new.below → LineIsWrong device old fault new
+  stops_wrong : (new : MemberReader S A State) (fault : FaultValue) (answers : AnswersFault device old fault new) → IsKept device new.below → LineIsWrong device old answers.stays.bytes.0 fault new
       → (count : ℕ) × StopsBehind device.left old count new.below
   stops_wrong new fault answers next wrong =
       let count = lines_given new.below - 1 in
@@ -128,25 +132,30 @@ module _ {S A State : Type 0} (device : Source S) (old : MemberReader S A State)
         count,
         before_line new.below count (omega arith) (omega arith)
             (beyond_end count (Some (fault_at_line (input_of old.below) (lines_given new.below) wrong.kind)) (good_coming device.left old) behind
-            (subst (λ f. IfSome (good_coming device.left old) (λ good. good ≡ ends_with (Some f))) wrong.place wrong.none_left))
-            (answers.lines wrong.going) next wrong.going wrong.near,
+            (subst (λ f. IfSome (good_coming device.left old) (λ good. good ≡ ends_with (Some f))) wrong.place (wrong_known device old new answers.stays.bytes.1 wrong)))
+            (lines_known device old.below new.below answers.stays.bytes.1 (answers.lines wrong.going)) next wrong.going wrong.near,
       )
 
-  stops_out : (new : MemberReader S A State) (fault : FaultValue) → AnswersFault device old fault new → IsKept device new.below
-      → ((line_fault new.below ≡ Some no_memory) × SaidNothing device.left old new) ⊎ LastUnkept device.left old new
+  stops_out : (new : MemberReader S A State) (fault : FaultValue) (answers : AnswersFault device old fault new) → IsKept device new.below
+      → ((line_fault new.below ≡ Some no_memory) × SaidNothing old answers.stays.bytes.0 new) ⊎ LastUnkept old answers.stays.bytes.0 new
       → (count : ℕ) × StopsBehind device.left old count new.below
-  stops_out new fault answers next (inl unread) = stops_unread new fault answers unread.1
+  stops_out new fault answers next (inl unread) = stops_unread new fault answers (nothing_known device old new answers.stays.bytes.1 unread.1)
   stops_out new fault answers next (inr unkept) =
       let count = lines_given new.below - 1 in
       let rises = unkept.rises in (
         count,
         before_line new.below count (omega arith) (omega arith)
             (first_beyond old.format (input_of old.below) old.state (suc (lines_given old.below)) _ (good_coming device.left old) count (lines_given new.below) (coming_is device.left old going)
-            (first_item (lines_given new.below) (good_coming device.left old) unkept.first) (omega arith))
-            (answers.lines unkept.going) next unkept.going unkept.near,
+            (first_item (lines_given new.below) (good_coming device.left old) (unkept_known device old new answers.stays.bytes.1 unkept)) (omega arith))
+            (lines_known device old.below new.below answers.stays.bytes.1 (answers.lines unkept.going)) next unkept.going unkept.near,
       )
 
   -- at a fault
   pub stops_faulty : (new : MemberReader S A State) (fault : FaultValue) → AnswersFault device old fault new → IsKept device new.below
       → (count : ℕ) × StopsBehind device.left old count new.below
-  stops_faulty new fault answers next = grind (arith, stops_wrong, stops_out)
+  stops_faulty new fault answers next = stops_by (answers.first going)
+    where
+      stops_by : Cause device old answers.stays.bytes.0 fault new → (count : ℕ) × StopsBehind device.left old count new.below
+      stops_by (inl wrong) = stops_wrong new fault answers next wrong
+      stops_by (inr (inl unread)) = stops_unread new fault answers (nothing_known device old new answers.stays.bytes.1 unread.passed)
+      stops_by (inr (inr ran)) = stops_out new fault answers next ran.checked

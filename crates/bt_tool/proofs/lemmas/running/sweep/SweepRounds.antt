@@ -9,7 +9,6 @@ use Rattle.bt_tool.specs.declared.loops.sweeping.SweepConfig.{SweepConfig}
 use Rattle.bt_tool.specs.inside.SweepLoop.{sweep_join, ReadsRest, SweepComes, SweepIsOver, Sweeps, config_of, left_to_sweep, records_pair, sweep_rounds, sweep_run}
 use Rattle.bt_tool.proofs.lemmas.running.members.MemberLemmas.{passes_start}
 use Rattle.bt_tool.proofs.lemmas.running.pair.PairTurns.{comes_start, some_buffered}
-use Rattle.bt_tool.proofs.lemmas.running.members.PassedLemmas.{line_going}
 use Rattle.bt_tool.proofs.lemmas.running.sweep.SweepFacts.{within_start}
 use Rattle.bt_lines.specs.declared.device.Source.{Ghosts as Source}
 use Rattle.bt_lines.specs.calls.Names.{fault_value}
@@ -47,8 +46,8 @@ module _ {A B O : Type 0} {g : Ghosts O} (source_a : Source A) (source_b : Sourc
     stands = stands;
     config_is = config_is;
     comes = comes_start (sweep_join (order_in first) config) (records_pair source_a source_b first second) out
-        (passes_start source_a (view_of first) fresh (line_going first fresh.going))
-        (passes_start source_b (view_of second) fresh_second (line_going second fresh_second.going)) block;
+        (passes_start source_a (view_of first) fresh)
+        (passes_start source_b (view_of second) fresh_second) block;
     first_order = refl;
     second_order = refl;
     fits = λ known. within_start (order_in first) config.limit [];
@@ -245,7 +244,7 @@ module _ {A B O : Type 0} {g : Ghosts O} {source_a : Source A} {source_b : Sourc
           )
       second_over {T} (Err fault) same_order ends =
           ends_with fault now later (rw (same_first_now, same) (fails_at_end s wants (fault_value fault) second_now later fills (ending {T = T} (Err fault) ends).1))
-          (λ never. (rw same_first_now clear_first, rw same (none_tells (line_fault (below second_now)) (line_going second_now fills.answers.goes)))) (rw same_first_now kept_first)
+          (λ never. (rw same_first_now clear_first, rw same (none_tells (line_fault (below second_now)) fills.answers.below_goes))) (rw same_first_now kept_first)
           (rw same (none_below (view_of second_now) (below second_now) fills.answers.goes))
 
   -- ---- what both have buffered was given
@@ -324,7 +323,7 @@ module _ {A B O : Type 0} {g : Ghosts O} {source_a : Source A} {source_b : Sourc
     gave (Err fault) same fails =
         let takes = takes_both s consumes consumes_second fails.proceeds.firsts fails.proceeds.seconds fails.proceeds.gives_firsts fails.proceeds.gives_seconds in
         ends_with fault new later (fails_both s consumes consumes_second (fault_value fault) later fails)
-        (λ never. (none_tells (line_fault (below new.first)) (takes.first_taken.clear (takes.first_taken.takes.goes ∙ none_first)), none_tells (line_fault (below new.second)) (takes.second_taken.clear (takes.second_taken.takes.goes ∙ none_second))))
+        (λ never. (none_tells (line_fault (below new.first)) (takes.first_taken.takes.below_stays ∙ s.sweeps.comes.first_passes.clear), none_tells (line_fault (below new.second)) (takes.second_taken.takes.below_stays ∙ s.sweeps.comes.second_passes.clear)))
         (none_below (view_of new.first) (below new.first) (takes.first_taken.takes.goes ∙ none_first))
         (none_below (view_of new.second) (below new.second) (takes.second_taken.takes.goes ∙ none_second))
 

@@ -7,12 +7,12 @@ use Rattle.bt_lines.specs.calls.Faults.{no_memory, write_failed}
 use Rattle.bt_lines.specs.calls.Device.{FailsAfter, ReadsOn, begun}
 use Rattle.bt_lines.specs.calls.Names.{fault_value}
 use Rattle.bt_lines.specs.calls.Output.{Output}
-use Rattle.bt_lines.specs.calls.Reader.{IsReadFailed, bytes_taken, fault_kept as line_fault, source_of, Hands, IsSound, input_of, fault_kept, feeds_taken, lines_given, lines_left}
+use Rattle.bt_lines.specs.calls.Reader.{IsReadFailed, bytes_taken, fault_kept as line_fault, source_of, Hands, IsSound, input_of, fault_kept, feeds_taken, lines_coming, lines_given, lines_left}
 use Rattle.bt_lines.specs.declared.fault.Fault.{Fault}
 use Rattle.bt_lines.specs.declared.fault.Input.{Input}
 use Rattle.bt_lines.specs.declared.fault.Input.TheVariants.{First, Second, Genome as FromGenome}
 use Rattle.bt_lines.specs.declared.fault.Kind.{Kind}
-use Rattle.bt_lines.specs.declared.fault.Kind.TheVariants.{ReadFailed}
+use Rattle.bt_lines.specs.declared.fault.Kind.TheVariants.{NoMemory as OutOfMemory, ReadFailed, WriteFailed}
 use Rattle.bt_lines.specs.declared.reader.line_reader.LineReader.{LineReader}
 use Rattle.bt_bed.specs.model.Good.{Format, Member}
 use Rattle.bt_bed.specs.model.BedLine.{IsBedKind, fault_at_line}
@@ -20,16 +20,17 @@ use Rattle.bt_bed.specs.model.Order.{Order}
 use Rattle.bt_bed.specs.calls.Reading.{AnswersFault, Cause, MemberReader, is_of_line}
 use Rattle.bt_bed.specs.declared.order.genome.Genome.{Genome as GenomeTable}
 use Rattle.bt_bed.specs.model.Genome.{Entry, genome_of}
-use Rattle.bt_lines.specs.model.Lines.{Handed, TextLine, text_lines}
+use Rattle.bt_lines.specs.model.Lines.{Handed, TextLine, text_lines, whole_text}
 use Rattle.bt_lines.specs.calls.Line.{line_feeds}
-use Rattle.bt_bed.specs.calls.GenomeTable.{entries, EntryUnread, ReadsAll, ReadingStops, StopCause, is_genome_kind}
-use Rattle.bt_tool.specs.model.Report.{behaviour_of, chromosomes_of}
-use Rattle.bt_tool.specs.calls.Inputs.{OfBoth, Reads}
-use Rattle.bt_tool.specs.calls.Run.{RunsAlone, RunsBy, AnswersNoRead, IsOwnFailure, ReadsServe, TellsNoRead, TellsOwnReads, KnowsChromosomes, LacksChromosomes}
+use Rattle.bt_bed.proofs.lemmas.read.good.KnownLemmas.{at_end, lines_before_known}
+use Rattle.bt_bed.specs.calls.GenomeTable.{entries, EntryIsWrong, EntryUnread, ReadsAll, ReadingStops, StopCause, is_genome_kind}
+use Rattle.bt_tool.specs.model.Report.{behaviour_of, chromosomes_of, of_file}
+use Rattle.bt_tool.specs.calls.Inputs.{Holds, OfBoth, Reads, ReadsIf}
+use Rattle.bt_tool.specs.calls.Run.{IsOfInput, TellsInputIf, RunsAlone, RunsBy, AnswersNoRead, IsOwnFailure, ReadsServe, TellsNoRead, TellsOwnReads, KnowsChromosomes, LacksChromosomes}
 use Rattle.bt_tool.proofs.lemmas.running.feed.WritingLemmas.{behaves_alone}
 use Rattle.bt_tool.specs.inside.Feed.{FeedStopCause, HasFaultBehind, FeedsUpTo, Flushes, IsKeptBelow}
 use Rattle.bt_tool.specs.inside.Pair.{InputsEnd, JoinDef, Pair, PairEnds, Why}
-use Rattle.bt_tool.specs.model.Written.{IsSweptKind}
+use Rattle.bt_tool.specs.model.Written.{IsOneOf, IsSweptKind}
 use Rattle.bt_tool.specs.declared.planning.plan_type.Command.{Command}
 use Rattle.bt_tool.proofs.lemmas.running.members.CursorLemmas.{BeginsAt, some_of, cut_text, handed_all, handed_part}
 use Rattle.bt_lines.proofs.lemmas.reader.lines.TextLemmas.{whole_count, whole_front}
@@ -53,13 +54,13 @@ memory_tells kept is input line e = memory_no_read input line (some_is no_memory
 
 -- what a reader of members reports is kept by its reader of lines, if it is a failed read
 module _ {S A State : Type 0} {device : Source S} {old new : MemberReader S A State} {fault : FaultValue} where
-  cause_kept : Cause device old fault new → (input : Input) (line : ℕ) → fault ≡ read_failed input line → line_fault new.below ≡ Some (read_failed input line)
+  cause_kept : {bytes : List ℕ} → Cause device old bytes fault new → (input : Input) (line : ℕ) → fault ≡ read_failed input line → line_fault new.below ≡ Some (read_failed input line)
   cause_kept (inl wrong) input line e = let kind : ReadFailed ≡ wrong.kind = ap (λ (f : FaultValue). f.kind) (sym e ∙ wrong.place) in absurd (false≢true (ap is_of_line kind ∙ wrong.of_line))
   cause_kept (inr (inl unread)) input line e = unread.fails.kept ∙ ap Some e
   cause_kept (inr (inr ran)) input line e = absurd (memory_no_read input line (sym ran.is ∙ e))
 
   -- and if it isn't, that one keeps none
-  cause_none : Cause device old fault new → TellsNoRead (Some fault) → TellsNoRead (line_fault new.below)
+  cause_none : {bytes : List ℕ} → Cause device old bytes fault new → TellsNoRead (Some fault) → TellsNoRead (line_fault new.below)
   cause_none (inl wrong) never = none_tells (line_fault new.below) wrong.going
   cause_none (inr (inl unread)) never = λ input line e. never input line (sym unread.fails.kept ∙ e)
   cause_none (inr (inr ran)) never =
@@ -244,36 +245,82 @@ module _ {G : Type 0} {device : Source G} {genome after : G} {old : LineReader G
   at_genome : (text : List ℕ) (P : List TextLine → Type 0) → device.left genome ≡ Some text → IfSome (lines_left device.left old) P → P (text_lines text)
   at_genome text P e h = some_of (lines_left device.left old) (text_lines text) P (lines ∙ ap (option_map text_lines) e) h
 
-  pub knows_read : {table : GenomeTable} → ReadsAll device old new table → IsSound device new → KnowsChromosomes device (Some genome) (Some after) (Some table)
-  knows_read reads next = search rules
+  -- the whole text is of the lines that were known
+  of_whole : (result : Result (List Entry) FaultValue) → IfSome (lines_left device.left old) (λ lines. genome_of (input_of old) lines ≡ result) → (text : List ℕ) → device.left genome ≡ Some text → chromosomes_of (Some (whole_text text)) ≡ of_file result
+  of_whole result is text e = ap of_file (ap (λ i. genome_of i (text_lines text)) (sym input) ∙ at_genome text (λ lines. genome_of (input_of old) lines ≡ result) e is)
+
+  module _ {table : GenomeTable} (reads : ReadsAll device old new table) (next : IsSound device new) where
+    tells : (text : List ℕ) → device.left genome ≡ Some text → chromosomes_of (Some (whole_text text)) ≡ Ok (Some (entries table))
+    tells = of_whole (Ok (entries table))
+        (lines_before_known device old new reads.bytes.1 (λ lines. genome_of (input_of old) lines ≡ Ok (entries table))
+        (λ rest follows. at_end reads.bytes.0 (λ l. genome_of (input_of old) (lines_coming l old) ≡ Ok (entries table)) reads.is rest (follows reads.told)))
+
+    tells_read : (handed : Option Handed) → ReadsIf device (Some genome) (Some after) handed → chromosomes_of handed ≡ Ok (Some (entries table))
+    tells_read None came = absurd came
+    tells_read (Some handed) came =
+        subst (λ h. chromosomes_of (Some h) ≡ Ok (Some (entries table))) (sym (handed_all device old new source ended fresh handed came (reads.bytes.0, reads.bytes.1) reads.served (next.within reads.going))) (tells came.text came.known)
+
+    tells_held : (handed : Option Handed) → OfBoth (Holds device.left) (Some genome) handed → chromosomes_of handed ≡ Ok (Some (entries table))
+    tells_held None holds = absurd holds
+    tells_held (Some handed) holds = subst (λ h. chromosomes_of (Some h) ≡ Ok (Some (entries table))) (sym holds.is) (tells holds.text holds.known)
+
+    pub knows_read : KnowsChromosomes device (Some genome) (Some after) (Some table)
+    knows_read = record {
+      whole = tells_read;
+      told = tells_held;
+      named = refl;
+      distinct = reads.distinct;
+      served = sym (ap device.has_failed ended) ∙ reads.served ∙ ap device.has_failed source;
+      ended = sym (ap device.end_told ended) ∙ (next.end reads.told).0;
+    }
 
   module _ (fault : FaultValue) (bytes : (bytes : List ℕ) × Hands device old bytes new) (next : IsSound device new) where
-    unread_text : EntryUnread device old new fault → (handed : Handed) → Reads device genome after handed → chromosomes_of (Some handed) ≡ Err fault
+    unread_text : EntryUnread device old bytes.0 new fault → (handed : Handed) → Reads device genome after handed → chromosomes_of (Some handed) ≡ Err fault
     unread_text unread handed reads =
         let texts = cut_text device old new source ended fresh handed reads unfed (unread.fails.cut (record { end = sound.end; within = sound.within })) in
         let front = take (2 ^ 63 - 1) reads.bytes in
-        let made = at_genome reads.text (λ lines. (entries : List Entry) × (genome_of (input_of old) (take (lines_given new - lines_given old) lines) ≡ Ok entries)) reads.known unread.passed in
+        let made = at_genome reads.text (λ lines. (entries : List Entry) × (genome_of (input_of old) (take (lines_given new - lines_given old) lines) ≡ Ok entries)) reads.known (lines_before_known device old new bytes.1 (λ lines. (entries : List Entry) × (genome_of (input_of old) (take (lines_given new - lines_given old) lines) ≡ Ok entries)) unread.passed) in
         let first : genome_of FromGenome (take (line_feeds front) (text_lines (front ++ texts.more))) ≡ Ok made.0 =
         ap (λ t. genome_of FromGenome (take (line_feeds front) (text_lines t))) texts.text
         ∙ ap (λ n. genome_of FromGenome (take n (text_lines reads.text))) (sym (omega (arith, texts.given, none_given)))
         ∙ ap (λ i. genome_of i (take (lines_given new - lines_given old) (text_lines reads.text))) (sym input) ∙ made.1 in
         grind (arith, (handed_part device old new source ended fresh handed reads bytes unread.fails.cause), whole_front, whole_count)
 
-    whole_by : StopCause device old new fault → fault ≢ no_memory → (handed : Handed) → Reads device genome after handed → chromosomes_of (Some handed) ≡ Err fault
-    whole_by (inl wrong) memory handed reads =
-        subst (λ h. chromosomes_of (Some h) ≡ Err fault) (sym (handed_all device old new source ended fresh handed reads bytes wrong.served (next.within wrong.going))) (grind arith)
-    whole_by (inr (inl unread)) memory handed reads = unread_text unread handed reads
-    whole_by (inr (inr ran)) memory handed reads = absurd (memory ran.is)
+    wrong_text : EntryIsWrong device old bytes.0 new fault → (text : List ℕ) → device.left genome ≡ Some text → chromosomes_of (Some (whole_text text)) ≡ Err fault
+    wrong_text wrong = of_whole (Err fault) (lines_before_known device old new bytes.1 (λ lines. genome_of (input_of old) lines ≡ Err fault) wrong.is)
 
-    lacks_by : StopCause device old new fault → LacksChromosomes device (Some genome) (Some after) fault
-    lacks_by cause = grind (arith, whole_by)
+    whole_by : StopCause device old bytes.0 new fault → fault ≢ no_memory → (handed : Option Handed) → ReadsIf device (Some genome) (Some after) handed → chromosomes_of handed ≡ Err fault
+    whole_by cause memory None reads = absurd reads
+    whole_by (inl wrong) memory (Some handed) reads =
+        subst (λ h. chromosomes_of (Some h) ≡ Err fault) (sym (handed_all device old new source ended fresh handed reads bytes wrong.served (next.within wrong.going))) (wrong_text wrong reads.text reads.known)
+    whole_by (inr (inl unread)) memory (Some handed) reads = unread_text unread handed reads
+    whole_by (inr (inr ran)) memory (Some handed) reads = absurd (memory ran.is)
+
+    told_by : StopCause device old bytes.0 new fault → (handed : Option Handed) → OfBoth (Holds device.left) (Some genome) handed → IsOfInput (Some fault) → chromosomes_of handed ≡ Err fault
+    told_by cause None holds of_input = absurd holds
+    told_by (inl wrong) (Some handed) holds of_input = subst (λ h. chromosomes_of (Some h) ≡ Err fault) (sym holds.is) (wrong_text wrong holds.text holds.known)
+    told_by (inr (inl unread)) (Some handed) holds of_input = absurd (of_input.no_read (input_of old) (suc (lines_given new)) (ap Some unread.fails.is))
+    told_by (inr (inr ran)) (Some handed) holds of_input = absurd (of_input.no_growth (ap Some ran.is))
+
+    named_by : StopCause device old bytes.0 new fault → TellsInputIf device (IsOneOf is_genome_kind) FromGenome (Some genome) (Some after) fault ⊎ (fault ≡ no_memory)
+    named_by (inl wrong) = inl (inl (record { line = lines_given new; kind = wrong.kind; of_kind = wrong.of_line; is = wrong.place ∙ ap (λ i. fault_at_line i (lines_given new) wrong.kind) input }))
+    named_by (inr (inl unread)) = let fails = unread.fails in grind arith
+    named_by (inr (inr ran)) = inr ran.is
+
+    no_write_by : StopCause device old bytes.0 new fault → fault ≢ write_failed
+    no_write_by (inl wrong) e = absurd (false≢true (ap (λ (f : FaultValue). is_genome_kind f.kind) (sym e ∙ wrong.place) ∙ wrong.of_line))
+    no_write_by (inr (inl unread)) e = let apart : WriteFailed ≡ ReadFailed = ap (λ (f : FaultValue). f.kind) (sym e ∙ unread.fails.is) in cc
+    no_write_by (inr (inr ran)) e = let apart : WriteFailed ≡ OutOfMemory = ap (λ (f : FaultValue). f.kind) (sym e ∙ ran.is) in cc
+
+    lacks_by : StopCause device old bytes.0 new fault → LacksChromosomes device (Some genome) (Some after) fault
+    lacks_by cause = record { whole = λ handed reads memory. whole_by cause memory handed reads; told = told_by cause; named = named_by cause; no_write = no_write_by cause }
 
   pub lacks_read : {fault : FaultValue} → ReadingStops device old new fault → IsSound device new → LacksChromosomes device (Some genome) (Some after) fault
   lacks_read {fault} stops next = lacks_by fault stops.bytes next (stops.first clear)
 
   -- a failed read that is reported is of a read that failed then
   module _ (fault : FaultValue) (bytes : (bytes : List ℕ) × Hands device old bytes new) where
-    own_by : StopCause device old new fault → (other : Input) (line : ℕ) → fault ≡ read_failed other line → (other ≡ FromGenome) × IsOwnFailure device.is_read genome after
+    own_by : StopCause device old bytes.0 new fault → (other : Input) (line : ℕ) → fault ≡ read_failed other line → (other ≡ FromGenome) × IsOwnFailure device.is_read genome after
     own_by (inl wrong) other line e = absurd (false≢true (ap (λ (f : FaultValue). is_genome_kind f.kind) (sym e ∙ wrong.place) ∙ wrong.of_line))
     own_by (inr (inl unread)) other line e = (
       sym (grind arith) ∙ input,
@@ -281,7 +328,7 @@ module _ {G : Type 0} {device : Source G} {genome after : G} {old : LineReader G
     )
     own_by (inr (inr ran)) other line e = absurd (memory_no_read other line (sym ran.is ∙ e))
 
-    tells_own : StopCause device old new fault → TellsOwnReads (IsOwnFailure device.is_read genome after) ⊥ ⊥ (Some fault)
+    tells_own : StopCause device old bytes.0 new fault → TellsOwnReads (IsOwnFailure device.is_read genome after) ⊥ ⊥ (Some fault)
     tells_own cause = record {
       genome_file = λ line e. (own_by cause FromGenome line (some_is fault (read_failed FromGenome line) e)).1;
       first_input = λ line e. let apart : First ≡ FromGenome = (own_by cause First line (some_is fault (read_failed First line) e)).0 in cc;
@@ -289,7 +336,7 @@ module _ {G : Type 0} {device : Source G} {genome after : G} {old : LineReader G
     }
 
     -- if none is reported, none is kept
-    none_by : StopCause device old new fault → TellsNoRead (Some fault) → TellsNoRead (line_fault new)
+    none_by : StopCause device old bytes.0 new fault → TellsNoRead (Some fault) → TellsNoRead (line_fault new)
     none_by (inl wrong) never = none_tells (line_fault new) wrong.going
     none_by (inr (inl unread)) never = line_none (line_fault new) fault unread.fails.kept never
     none_by (inr (inr ran)) never = λ other line e. ran.no_read (other, line, e)

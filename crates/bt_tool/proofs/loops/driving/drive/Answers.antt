@@ -20,7 +20,7 @@ pub feed_all-fed-requires-clause-fresh : goal.feed_all-fed-requires-clause-fresh
 feed_all-fed-requires-clause-fresh g c =
     let reader = c.new-reader.ensures in
     let records = c.new-records.ensures in
-    fresh_over _ (view_of c.new-records.result) records.below reader.none_taken.0 reader.none_fed reader.none_given (records.fault ∙ reader.going.0) records.none_buffered reader.sound
+    fresh_over _ (view_of c.new-records.result) records.below reader.none_taken.0 reader.none_fed reader.none_given (records.fault ∙ reader.going.0) reader.going.0 records.none_buffered reader.sound
 
 pub feed_all-fed-requires-clause-sorted : goal.feed_all-fed-requires-clause-sorted
 feed_all-fed-requires-clause-sorted g c = sorted_start c.new-records.result

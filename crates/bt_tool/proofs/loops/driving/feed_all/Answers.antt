@@ -9,7 +9,7 @@ use Rattle.bt_tool.specs.calls.Run.{AnswersNoRead, TellsNoRead}
 use Rattle.bt_tool.proofs.lemmas.running.feed.FeedLemmas.{failed_at, feeds_all, given_by, going_fill, going_start, going_taken, stops_feeding, stops_reading}
 use Rattle.bt_tool.proofs.lemmas.running.pair.PairTurns.{some_buffered}
 use Rattle.bt_tool.proofs.lemmas.running.whole.OwnFailureLemmas.{none_below, none_tells, told_kept, told_none}
-use Rattle.bt_tool.proofs.lemmas.running.members.PassedLemmas.{is_filled, is_over, is_stopped, line_going}
+use Rattle.bt_tool.proofs.lemmas.running.members.PassedLemmas.{is_filled, is_over, is_stopped}
 use Rattle.bt_tool.proofs.loops.driving.feed_all.Goals as goal
 
 pub loop-records-init : goal.loop-records-init
@@ -73,7 +73,7 @@ returns-in_err-feed_buffered-clause-none_kept g c = λ never.
     let gives = c.in_err-feed_buffered.ensures in
     let given = given_by {A = Unit {0}} g.E.Engine.definition _ _ _ (Err c.in_err-feed_buffered.field-0.0) _ _ _ gives.3 in
     let has = gives.2.takes given.0 given.1 in
-    none_tells _ (has.clear (has.takes.goes ∙ filled.gives.goes ∙ c.loop-records.invariant.fed.passes.going))
+    none_tells _ (has.takes.below_stays ∙ filled.gives.below_goes)
 
 pub returns-clause-feeds : goal.returns-clause-feeds
 returns-clause-feeds g c =
@@ -81,7 +81,7 @@ returns-clause-feeds g c =
     c.loop-records.invariant c.fill.new.self (is_over g.S.Source c.loop-records.records c.fill.new.self (rw c.if-branch.false at c.in_ok-fill.ensures))
 
 pub returns-clause-none_kept : goal.returns-clause-none_kept
-returns-clause-none_kept g c = λ never. none_tells _ (line_going c.fill.new.self (rw c.if-branch.false at c.in_ok-fill.ensures).answers.goes)
+returns-clause-none_kept g c = λ never. none_tells _ (rw c.if-branch.false at c.in_ok-fill.ensures).answers.below_goes
 
 pub returns-clause-kept : goal.returns-clause-kept
 returns-clause-kept g c = none_below (view_of c.fill.new.self) (below c.fill.new.self) (rw c.if-branch.false at c.in_ok-fill.ensures).answers.goes

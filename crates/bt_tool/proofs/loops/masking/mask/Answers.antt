@@ -20,9 +20,9 @@ run_two-fault-requires g c =
     let reader_2 = c.new.ensures in
     let records = c.new-records.ensures in
     masks_start g.A.Source g.B.Source (record { lines = c.new-lines.result; records = c.new-records.result; mask = c.new-mask.result }) c.args.out.now.output reader.input
-    (fresh_over g.A.Source (line_members c.new-mask.result.full nothing_reached c.new-lines.result) refl reader.none_taken.0 reader.none_fed reader.none_given reader.going.0 refl reader.sound) reader.going.0
-    (fresh_over g.B.Source (view_of c.new-records.result) records.below reader_2.none_taken.0 reader_2.none_fed reader_2.none_given (records.fault ∙ reader_2.going.0) records.none_buffered reader_2.sound)
-    (records.fault ∙ reader_2.going.0) c.requires c.new-mask.ensures.stands.stands
+    (fresh_over g.A.Source (line_members c.new-mask.result.full nothing_reached c.new-lines.result) refl reader.none_taken.0 reader.none_fed reader.none_given reader.going.0 reader.going.0 refl reader.sound)
+    (fresh_over g.B.Source (view_of c.new-records.result) records.below reader_2.none_taken.0 reader_2.none_fed reader_2.none_given (records.fault ∙ reader_2.going.0) reader_2.going.0 records.none_buffered reader_2.sound)
+    c.requires c.new-mask.ensures.stands.stands
 
 pub returns : goal.returns
 returns g c =

@@ -5,7 +5,7 @@ use Rattle.bt_bed.specs.calls.Records.{below, order_in, view_of}
 use Rattle.bt_bed.proofs.lemmas.order.TableLemmas.{passed_on}
 use Rattle.bt_tool.specs.inside.SweepLoop.{ReadsRest}
 use Rattle.bt_tool.specs.calls.Run.{AnswersNoRead, TellsNoRead}
-use Rattle.bt_tool.proofs.lemmas.running.members.PassedLemmas.{is_filled, is_over, is_stopped, line_going}
+use Rattle.bt_tool.proofs.lemmas.running.members.PassedLemmas.{is_filled, is_over, is_stopped}
 use Rattle.bt_tool.proofs.lemmas.running.pair.PairTurns.{reads_start, reads_more, reads_end, reads_stop}
 use Rattle.bt_tool.proofs.lemmas.running.whole.OwnFailureLemmas.{none_below, none_tells, told_kept, told_none}
 use Rattle.bt_tool.proofs.loops.sweeping.check_rest.Goals as goal
@@ -40,7 +40,7 @@ returns-clause-reads g c = λ old past p wrong.
 
 pub returns-clause-none_kept : goal.returns-clause-none_kept
 returns-clause-none_kept g c = λ none never.
-    none_tells (line_fault (below c.fill.new.self)) (line_going c.fill.new.self (rw c.if-branch.false at c.in_ok-fill.ensures).answers.goes)
+    none_tells (line_fault (below c.fill.new.self)) (rw c.if-branch.false at c.in_ok-fill.ensures).answers.below_goes
 
 pub returns-clause-kept : goal.returns-clause-kept
 returns-clause-kept g c = λ none. none_below (view_of c.fill.new.self) (below c.fill.new.self) (rw c.if-branch.false at c.in_ok-fill.ensures).answers.goes

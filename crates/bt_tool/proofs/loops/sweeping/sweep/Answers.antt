@@ -32,8 +32,8 @@ run_two-fault-requires g c =
         none_last_second = records_2.none_last;
       };
       sweeps = sweeps_start g.A.Source g.B.Source (config_of (state_of c.new-sweep.result)) c.new-firsts.result c.new-seconds.result c.args.out.now.output
-          (fresh_over _ (view_of c.new-firsts.result) records.below reader.none_taken.0 reader.none_fed reader.none_given (records.fault ∙ reader.going.0) records.none_buffered reader.sound)
-          (fresh_over _ (view_of c.new-seconds.result) records_2.below reader_2.none_taken.0 reader_2.none_fed reader_2.none_given (records_2.fault ∙ reader_2.going.0) records_2.none_buffered reader_2.sound)
+          (fresh_over _ (view_of c.new-firsts.result) records.below reader.none_taken.0 reader.none_fed reader.none_given (records.fault ∙ reader.going.0) reader.going.0 records.none_buffered reader.sound)
+          (fresh_over _ (view_of c.new-seconds.result) records_2.below reader_2.none_taken.0 reader_2.none_fed reader_2.none_given (records_2.fault ∙ reader_2.going.0) reader_2.going.0 records_2.none_buffered reader_2.sound)
           c.requires.block (state_of c.new-sweep.result)
           (rw (← records.order) at sweep.stands) refl;
       order_is = sweep.order ∙ sym records.order;

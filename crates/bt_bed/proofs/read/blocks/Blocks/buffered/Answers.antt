@@ -5,4 +5,4 @@ use Rattle.bt_bed.proofs.read.blocks.Blocks.buffered.Goals as goal
 
 pub returns-clause-comes : goal.returns-clause-comes
 unfolding view_of
-returns-clause-comes g c = sorted_comes g.S.Source block_sorting c.args.self.now.sorted c.args.self.now.placed
+returns-clause-comes g c = sorted_comes block_sorting c.args.self.now.sorted c.args.self.now.placed

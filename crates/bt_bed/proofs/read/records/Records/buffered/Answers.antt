@@ -5,4 +5,4 @@ use Rattle.bt_bed.proofs.read.records.Records.buffered.Goals as goal
 
 pub returns-clause-comes : goal.returns-clause-comes
 unfolding view_of
-returns-clause-comes g c = sorted_comes g.S.Source (sorting_of (g.O.ChromOrder.order c.args.self.now.sorted.lookahead.rule.order.now)) c.args.self.now.sorted c.args.self.now.placed
+returns-clause-comes g c = sorted_comes (sorting_of (g.O.ChromOrder.order c.args.self.now.sorted.lookahead.rule.order.now)) c.args.self.now.sorted c.args.self.now.placed

@@ -6,7 +6,7 @@ abbrev pub invariant-loop-at : goal.invariant-loop-at
 invariant-loop-at l = record {
   within : l.at ≤ length l.block;
   passed : IsPassed l.initial.self (take l.at l.block) l.self;
-  quiet : l.self.line ≤ 1023 → AreQuiet l.self (drop l.at l.block);
+  quiet : l.self.line ≤ 1015 → AreQuiet l.self (drop l.at l.block);
 }
 
 abbrev pub decreases-loop-at : goal.decreases-loop-at

@@ -33,7 +33,7 @@ returns g c = λ start out begun.
     let has = blocks_taken g.B.Source records c.consume-2.new.self (count_in records c.consumed-consumed-2.result) gives.taken taken c.buffered-beds.ensures.comes c.consume-2.ensures in
     gave_both begun
     (record { lines = c.consume.new.self; records = c.consume-2.new.self; mask = c.advance-masked.new.self }) c.advance-masked.new.out.output
-    c.consume.ensures.fault_is has.takes.goes has.clear
+    c.consume.ensures.fault_is has.takes.goes has.takes.below_stays
     c.advance-masked.result (λ start before going.
     let s = going.1 in
     gives_both s begins last_lines gives.texts parts numbered (lent_are records c.buffered-beds.result c.buffered-beds.ensures.lends) (lent_at records c.buffered-beds.result c.buffered-beds.ensures.lends)
