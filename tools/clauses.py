@@ -4,7 +4,7 @@ name, and what it can return instead of success.
 
     tools/clauses.py [CRATE..]    prints the index of these crates, or of all
 
-A call is public if src/lib.rt of its crate exports it or its type; of bt_laws all laws are, of the program what has a
+A call is public if src/lib.rt of its crate exports it or its type; of bt_laws all laws are, of a program what has a
 contract. public.tsv says why something is public that other crates alone use.
 """
 
@@ -34,6 +34,11 @@ IN_WORDS = {"pipes", "same", "counts", "parts"}
 def crates():
     """The crates in their order."""
     return [line.partition(":")[0].strip() for line in read("crates.txt").splitlines() if ":" in line]
+
+
+def is_program(crate):
+    """Whether a crate is a program, which exports nothing."""
+    return (TOP / "crates" / crate / "src" / "main.rt").exists()
 
 
 def exported(crate):
@@ -143,13 +148,13 @@ def code_of(crate):
 def calls():
     """The rows of the index."""
     for crate in crates():
-        is_library = crate not in ("bt_laws", "bedtools")
+        is_library = crate != "bt_laws" and not is_program(crate)
         shown = exported(crate) if is_library else set()
         for file in code_of(crate):
             words = words_in(file)
             for owner, name, head, is_public in calls_of(file):
                 clauses = clauses_of(head)
-                is_shown = bool(clauses) and (is_public or crate == "bedtools")
+                is_shown = bool(clauses) and (is_public or is_program(crate))
                 if is_public and (owner or name) in shown if is_library else is_shown:
                     said = [(clause, named_in(text, words, crate == "bt_laws")) for clause, text in clauses]
                     yield Call(crate, file, f"{owner}::{name}" if owner else name, said, refusal_of(head))

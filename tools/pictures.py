@@ -37,7 +37,8 @@ NOTES = {
     "bt_tool": "options, plan, run, outcome",
     "bt_front": "words for bedtools",
     "bt_laws": "laws",
-    "bedtools": "the program: files, streams, main",
+    "bt_files": "files, a plan carried out, messages",
+    "bedtools": "the program: words, main",
 }
 
 

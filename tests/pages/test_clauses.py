@@ -9,7 +9,7 @@ import re
 
 from tests.support import TOP, Counted
 
-from clauses import PUBLIC, calls, exported
+from clauses import PUBLIC, calls, exported, is_program
 from files import rows
 
 TESTS = "tests/pages/tests.tsv"
@@ -28,7 +28,7 @@ class Clauses(Counted):
         cls.calls = list(calls())
         cls.counts.update(calls=len(cls.calls), clauses=sum(len(call.clauses) for call in cls.calls))
         cls.may_fail = {(call.crate, call.name) for call in cls.calls
-                        if call.refusal in MEMORY and call.crate != "bedtools"}
+                        if call.refusal in MEMORY and not is_program(call.crate)}
 
     def test_calls_that_take_memory_have_rows(self):
         self.assertEqual(sorted({(crate, call) for crate, call, _ in rows(TESTS)}), sorted(self.may_fail))

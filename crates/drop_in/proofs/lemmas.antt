@@ -1,0 +1,7 @@
+-- Lemmas by theme.
+pub mod CallLemmas
+pub mod KeptLemmas
+pub mod MarkLemmas
+pub mod OriginalLemmas
+pub mod TakenLemmas
+pub mod WordsLemmas

@@ -1,0 +1,109 @@
+-- Lemmas on streams that are kept, and on texts in memory.
+use Rattle.std.specs.Prelude.{Vec}
+use Rattle.std.specs.Io.Cursor.{cursor_inner, cursor_position}
+use Rattle.std.specs.declared.alloc.Global.{Global}
+use Rattle.std.specs.declared.io.impls.Cursor.{Cursor}
+use Rattle.bt_lines.proofs.Std.{◌≡◌, ◌∙◌, ◌⊎◌, ◌++◌, ℕ, [], List, Option, Some, None, Result, Ok, Err, ap, append-nil, append_assoc, inl, inr, refl, subst, sym}
+use Rattle.bt_lines.specs.declared.device.Source.{Ghosts as Source}
+use Rattle.bt_lines.specs.declared.device.from_read.FromRead.{FromRead}
+use Rattle.bt_lines.specs.calls.Device.{FailsAfter, ReadsOn, begun, gave, reader_of}
+use Rattle.bt_front.specs.calls.Stream.{IsKeptRead, has_stopped, kept_of, source_of}
+use Rattle.bt_front.specs.calls.Survey.{LeavesText, ReadsSurvey, Surveys}
+use Rattle.bt_front.specs.declared.stream.keeping.Keeping.{Keeping}
+use Rattle.bt_front.specs.declared.survey.Survey.{Survey}
+use Rattle.bt_front.specs.declared.survey.trouble.Trouble.{Trouble}
+use Rattle.drop_in.specs.calls.Inputs.{kept_left}
+use Rattle.drop_in.specs.calls.Looks.{SurveysStream}
+use Rattle.drop_in.specs.declared.looks.ReadStream.{ReadStream}
+
+-- a text in memory of which nothing was read has all of it
+pub kept_all : (source : FromRead (Cursor (Vec ℕ Global))) (cursor : Cursor (Vec ℕ Global)) (text : Vec ℕ Global)
+    → reader_of source ≡ cursor → cursor_position cursor ≡ 0 → cursor_inner cursor ≡ text → kept_left source ≡ Some text.items
+kept_all source cursor text reader at inner = rw (reader, at, inner) refl
+
+module _ {S : Type 0} (IsRead : S → Option (List ℕ) → S → Type 0) where
+  -- one more read of a source that keeps
+  pub kept_more : (first : S) (before after : Keeping S) (piece : List ℕ) → ReadsOn IsRead first (kept_of before) (source_of before)
+      → IsKeptRead IsRead before (Some piece) after → ReadsOn IsRead first (kept_of after) (source_of after)
+  kept_more first before after piece reads is =
+      subst (λ (kept : List ℕ). ReadsOn IsRead first kept (source_of after)) (sym (is.0)) (gave reads piece (source_of after) (is.1))
+
+  -- what was read of it was read of the source below, and is kept
+  pub kept_reads : {first last : Keeping S} {bytes : List ℕ} → ReadsOn (IsKeptRead IsRead) first bytes last
+      → ReadsOn IsRead (source_of first) bytes (source_of last) × (kept_of last ≡ kept_of first ++ bytes)
+  kept_reads {first} begun = (begun, sym (append-nil (kept_of first)))
+  kept_reads {first} (gave {bytes} reads piece after is) =
+      let so = kept_reads reads in (
+        gave so.0 piece (source_of after) (is.1),
+        is.0 ∙ ap (λ (kept : List ℕ). kept ++ piece) so.1 ∙ append_assoc (kept_of first) bytes piece,
+      )
+
+  -- or it failed then
+  pub kept_fails : (first last : Keeping S) (bytes : List ℕ) → FailsAfter (IsKeptRead IsRead) first bytes last
+      → (ReadsOn IsRead (source_of first) bytes (source_of last) ⊎ FailsAfter IsRead (source_of first) bytes (source_of last))
+        × (kept_of last ≡ kept_of first ++ bytes)
+  kept_fails first last bytes fails =
+      let so = kept_reads fails.served in (by_cause so.0 (fails.fails.1), fails.fails.0 ∙ so.1)
+    where
+      by_cause : ReadsOn IsRead (source_of first) bytes (source_of fails.before)
+          → (source_of last ≡ source_of fails.before) ⊎ IsRead (source_of fails.before) None (source_of last)
+          → ReadsOn IsRead (source_of first) bytes (source_of last) ⊎ FailsAfter IsRead (source_of first) bytes (source_of last)
+      by_cause served (inl same) = inl (subst (λ (s : S). ReadsOn IsRead (source_of first) bytes s) (sym same) served)
+      by_cause served (inr failed) = inr (record { before = source_of fails.before; served = served; fails = failed })
+
+-- a source that keeps, as a source
+abbrev pub kept_source : {S : Type 0} → Source S → Source (Keeping S)
+kept_source device = record {
+  left = λ s. device.left (source_of s);
+  has_failed = has_stopped;
+  end_told = λ s. device.end_told (source_of s);
+  is_read = IsKeptRead device.is_read;
+}
+
+module _ {S : Type 0} (device : Source S) where
+  abbrev pub handed_over : S → List ℕ → S → Type 0
+  handed_over before bytes after = ReadsOn device.is_read before bytes after ⊎ FailsAfter device.is_read before bytes after
+
+  -- what was handed over by a source that keeps was handed over by the one below
+  handed_below : (first last : Keeping S) (bytes : List ℕ)
+      → ReadsOn (IsKeptRead device.is_read) first bytes last ⊎ FailsAfter (IsKeptRead device.is_read) first bytes last
+      → handed_over (source_of first) bytes (source_of last) × (kept_of last ≡ kept_of first ++ bytes)
+  handed_below first last bytes (inl reads) = let so = kept_reads device.is_read reads in (inl so.0, so.1)
+  handed_below first last bytes (inr fails) = kept_fails device.is_read first last bytes fails
+
+  -- a survey of a source that keeps is one of the source below
+  surveyed_below : (first last : Keeping S) (kept : Vec ℕ Global) (result : Result Survey Trouble) → kept_of first ≡ []
+      → kept.items ≡ kept_of last → ReadsSurvey (kept_source device) first last result
+      → SurveysStream device (source_of first) (record { source = source_of last; kept = kept }) result
+  surveyed_below first last kept (Ok survey) none is surveys =
+      let so = kept_reads device.is_read surveys.served in (
+        record {
+          bytes = surveys.bytes;
+          served = so.0;
+          told = surveys.told;
+          plain = surveys.plain;
+          known = surveys.known;
+        },
+        is ∙ so.1 ∙ ap (λ (old : List ℕ). old ++ surveys.bytes) none,
+      )
+  surveyed_below first last kept (Err trouble) none is leaves =
+      let so = handed_below first last leaves.bytes leaves.handed in (
+        record { bytes = leaves.bytes; handed = so.0; known = leaves.known },
+        is ∙ so.1 ∙ ap (λ (old : List ℕ). old ++ leaves.bytes) none,
+      )
+
+  -- and so it is by these names
+  pub surveyed : (first last : Keeping S) (start now : S) (kept : Vec ℕ Global) (result : Result Survey Trouble)
+      → source_of first ≡ start → kept_of first ≡ [] → now ≡ source_of last → kept.items ≡ kept_of last
+      → ReadsSurvey (kept_source device) first last result
+      → SurveysStream device start (record { source = now; kept = kept }) result
+  surveyed first last start now kept result is_start none is_now is surveys =
+      subst (λ (s : S). SurveysStream device s (record { source = now; kept = kept }) result) is_start
+      (subst (λ (s : S). SurveysStream device (source_of first) (record { source = s; kept = kept }) result) (sym is_now)
+      (surveyed_below first last kept result none is surveys))
+
+  -- a stream that is left: what was handed over is kept
+  pub left_stream : (start : S) (stream : ReadStream S) (trouble : Trouble) → SurveysStream device start stream (Err trouble)
+      → handed_over start stream.kept.items stream.source
+  left_stream start stream trouble surveys =
+      subst (λ (bytes : List ℕ). handed_over start bytes stream.source) (sym (surveys.1)) surveys.0.handed

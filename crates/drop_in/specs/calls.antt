@@ -1,0 +1,8 @@
+-- What calls do, as contracts say it.
+pub mod Call
+pub mod Inputs
+pub mod Looks
+pub mod Marks
+pub mod Original
+pub mod Versions
+pub mod Words

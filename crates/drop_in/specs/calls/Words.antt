@@ -1,0 +1,49 @@
+-- What the words of a call ask for, or why it isn't run here.
+use Rattle.std.specs.Prelude.{ℕ, ◌≡◌, Bool, false, List, [], ◌∷◌, bytes_eq, codes, Option, Some, None, Ok, Err, is_some, ⊤}
+use Rattle.bt_lines.specs.declared.fault.Input.{Input}
+use Rattle.bt_lines.specs.declared.fault.Input.TheVariants.{First, Genome, Second}
+use Rattle.bt_front.specs.model.Words.{asked_of}
+use Rattle.bt_tool.specs.calls.Plan.{plan_seen}
+use Rattle.bt_tool.specs.declared.planning.plan_type.Command.{Command}
+use Rattle.bt_tool.specs.declared.planning.plan_type.Command.TheVariants.{BamToBed, Intersect, MaskFasta, Subtract}
+use Rattle.bt_tool.specs.model.Options.{PlanSeen, options}
+use Rattle.bt_tool.specs.model.Table.{Word}
+use Rattle.drop_in.specs.calls.Call.{asked_by}
+use Rattle.drop_in.specs.declared.why.Why.{Why}
+use Rattle.drop_in.specs.declared.why.Why.TheVariants.{Alignments, CoverageForm, Limit, Mask, NoMemory, Usage, Words}
+use Rattle.drop_in.specs.declared.words.Request.{Request}
+
+-- whether the first word is this one
+abbrev pub names_command : List Word → Word → Bool
+names_command [] name = false
+names_command (word ∷ words) name = bytes_eq word name
+
+-- why a command isn't run here: it limits the records that are held, or its inputs aren't BED
+abbrev pub command_why : Command → Option Why
+command_why (Intersect shape rule (Some held)) = Some Limit
+command_why (Subtract whole rule (Some held)) = Some Limit
+command_why (MaskFasta how full) = Some Mask
+command_why (BamToBed split cigar) = Some Alignments
+command_why _ = None
+
+-- the words have this plan, and ask for this
+pub record AsksFor (words : List Word) (request : Request) : Type 0 where
+  pub plan : options words ≡ Ok (plan_seen request.plan)
+  pub asked : asked_of words (plan_seen request.plan) ≡ Ok (asked_by request)
+  pub run_here : command_why request.plan.command ≡ None
+
+-- what the words say leaves the call
+abbrev pub IsWhyOfWords : List Word → Why → Type 0
+IsWhyOfWords words NoMemory = ⊤
+IsWhyOfWords words Alignments = ⊤
+IsWhyOfWords words (Usage usage) = options words ≡ Err usage
+IsWhyOfWords words (Words reason) = (plan : PlanSeen) × (options words ≡ Ok plan) × (asked_of words plan ≡ Err reason)
+IsWhyOfWords words why = ⊤
+
+-- the option that names an input of a command
+abbrev pub option_of : Command → Input → Word
+option_of command Genome = codes "-g"
+option_of command Second = codes "-b"
+option_of (Intersect shape rule held) First = codes "-a"
+option_of (Subtract whole rule held) First = codes "-a"
+option_of command First = codes "-i"

@@ -1,0 +1,257 @@
+//! `drop_in`: decides who takes a call of bedtools, and runs it if Dunekettle does.
+//!
+//! Its words are the number of a descriptor that is open for writing, and then those of the call. It writes a line there
+//! ([`line::Line`]). The script that is named `bedtools` starts it and reads that line.
+//!
+//! Words:
+//!
+//! - *call*: a command line of bedtools, with the standard streams that it has.
+//! - *stream*: an input that can be read only once, as standard input or a named pipe.
+//! - *take*: to run a call here. What isn't taken is *left*: to the bedtools on PATH, or to the drop-in of the shell.
+//! - *line*: what says who takes a call.
+#![tactic(auto)]
+
+mod answering;
+mod front_files;
+mod genome_file;
+mod leaving;
+mod line;
+mod looks;
+mod marks;
+mod naming;
+mod original;
+#[cfg(test)]
+mod original_tests;
+mod programs;
+mod system;
+mod system_programs;
+mod versions;
+mod why;
+mod words;
+
+use answering::{Answered, Streams, answer};
+use bt_files::{Finished, Opened, Output, StandIns, SystemFiles};
+use bt_lines::{Input, Sink};
+use bt_tool::Plan;
+use front_files::FrontInput;
+use leaving::{Call, Cause, Heir};
+use naming::is_of_standard_input;
+use original::Original;
+use std::env::Env;
+use std::fs::File;
+use std::process::ExitCode;
+use std::{env, io};
+use system::{DropInFiles, find_original, open_pipe, room, streams_of, writes_to_pipe};
+use system_programs::SystemPrograms;
+use versions::{is_for_any_version, is_known_version};
+use why::Why;
+use words::{Request, option_of, value_place};
+
+// The status of a run whose output has no reader any more.
+const GONE: u8 = 121;
+
+fn main(rt: HostRuntime) -> ExitCode {
+    // They are kept to the end, so that no file is ever a standard stream.
+    let stand_ins = StandIns::take(&rt);
+    let status = match &stand_ins {
+        Ok(_) => start(&rt),
+        Err(_) => 1,
+    };
+    ExitCode::from(status)
+}
+
+// Opens the pipe for the line, and answers the call.
+fn start(rt: &HostRuntime) -> u8 {
+    let Ok(number) = descriptor(rt) else {
+        return 1;
+    };
+    let Ok(pipe) = open_pipe(rt, number.as_str()) else {
+        return 1;
+    };
+    match call_words(rt) {
+        Ok(words) => {
+            let words = words.as_slice();
+            answer_call(&Call { rt, words }, pipe)
+        }
+        Err(_) => Call { rt, words: &[] }.leave(pipe, cause_of(Why::NotUnicode)),
+    }
+}
+
+// The number of the descriptor, the first word.
+fn descriptor(rt: &HostRuntime) -> io::Result<String> {
+    let mut block = [0u8; 16];
+    let Ok(count) = rt.arg(1, &mut block) else {
+        return Err(io::Error::from(io::ErrorKind::NotFound));
+    };
+    let mut number = String::new(rt.alloc());
+    for byte in &block[..count] {
+        number.push(char::from(*byte))?;
+    }
+    Ok(number)
+}
+
+// The words after it.
+fn call_words(rt: &HostRuntime) -> io::Result<Vec<String>> {
+    let mut all = Vec::new(rt.alloc());
+    for word in env::args(rt)?.skip(2) {
+        all.push(word)?;
+    }
+    Ok(all)
+}
+
+// A cause that no input is.
+fn cause_of(why: Why) -> Cause<'static> {
+    Cause { why, name: "" }
+}
+
+fn answer_call(call: &Call<'_>, pipe: File) -> u8 {
+    let request = match Request::of(call.rt.alloc(), call.words) {
+        Ok(request) => request,
+        Err(why) => return call.leave(pipe, cause_of(why)),
+    };
+    let streams = streams_of(call.rt, &request.plan);
+    if let Some(why) = why_unknown(call.rt, &request) {
+        return call.leave(pipe, cause_of(why));
+    }
+    if !streams.first && !streams.second {
+        return answer_files(call, pipe, request, streams);
+    }
+    match find_original(call.rt) {
+        Original::Named(path) => answer_stream(call, pipe, request, streams, path.as_str()),
+        Original::Missing | Original::Unclear => call.leave(pipe, cause_of(Why::NoOriginal)),
+    }
+}
+
+// Why the bedtools on PATH takes the words of a request: it isn't of a version that all was compared with. If the shell takes
+// the call anyway, it looks for that itself.
+fn why_unknown(rt: &HostRuntime, request: &Request) -> Option<Why> {
+    if request.orders_hits() || is_for_any_version(request.plan.command, request.is_sorted) {
+        return None;
+    }
+    match find_original(rt) {
+        Original::Named(path) => match is_known_version(&SystemPrograms { rt }, path.as_str()) {
+            Ok(true) => None,
+            _ => Some(Why::Version),
+        },
+        Original::Missing | Original::Unclear => None,
+    }
+}
+
+// Answers a call without a stream.
+fn answer_files(call: &Call<'_>, pipe: File, request: Request, streams: Streams) -> u8 {
+    let Ok(names) = InputNames::of(call.rt, &request.plan) else {
+        return call.leave(pipe, cause_of(Why::NoMemory));
+    };
+    let files = DropInFiles {
+        system: SystemFiles { rt: call.rt },
+        pipe,
+        command: request.plan.command.name(),
+    };
+    let (answered, files) = answer(call.rt.alloc(), files, request, streams, 0);
+    match answered {
+        Answered::Took(finished) => end(call.rt, finished),
+        Answered::Left(left) => call.leave(
+            files.pipe,
+            Cause {
+                why: left.why,
+                name: names.about(left.why),
+            },
+        ),
+    }
+}
+
+// Answers a call with a stream, which the bedtools of this path gets if it takes it.
+fn answer_stream(
+    call: &Call<'_>,
+    pipe: File,
+    request: Request,
+    streams: Streams,
+    path: &str,
+) -> u8 {
+    let Some(room) = room(call.rt) else {
+        return call.leave(pipe, cause_of(Why::Room));
+    };
+    let Ok(names) = InputNames::of(call.rt, &request.plan) else {
+        return call.leave(pipe, cause_of(Why::NoMemory));
+    };
+    let word = stream_word(call.words, &request.plan, streams.second);
+    let files = DropInFiles {
+        system: SystemFiles { rt: call.rt },
+        pipe,
+        command: request.plan.command.name(),
+    };
+    let (answered, files) = answer(call.rt.alloc(), files, request, streams, room);
+    match answered {
+        Answered::Took(finished) => end(call.rt, finished),
+        Answered::Left(left) => {
+            let cause = Cause {
+                why: left.why,
+                name: names.about(left.why),
+            };
+            match left.stream {
+                Some(stream) => call.leave_stream(files.pipe, cause, Heir { path, word }, stream),
+                None => call.leave(files.pipe, cause),
+            }
+        }
+    }
+}
+
+// The names of a plan's inputs, kept beside it.
+#[derive(Drop)]
+struct InputNames {
+    genome: String,
+    first: String,
+    second: String,
+}
+
+impl InputNames {
+    fn of(rt: &HostRuntime, plan: &Plan) -> io::Result<InputNames> {
+        Ok(InputNames {
+            genome: copy_of(rt, &plan.genome)?,
+            first: String::from_str(rt.alloc(), plan.first.as_str())?,
+            second: copy_of(rt, &plan.second)?,
+        })
+    }
+
+    // The name of the input that is the cause, or no text.
+    fn about(&self, why: Why) -> &str {
+        match why.input() {
+            Some(Input::Genome) => self.genome.as_str(),
+            Some(Input::First) => self.first.as_str(),
+            Some(Input::Second) => self.second.as_str(),
+            None => "",
+        }
+    }
+}
+
+fn copy_of(rt: &HostRuntime, name: &Option<String>) -> io::Result<String> {
+    match name {
+        Some(name) => Ok(String::from_str(rt.alloc(), name.as_str())?),
+        None => Ok(String::new(rt.alloc())),
+    }
+}
+
+// The word of the call that the stream replaces, 0 if it is standard input by its name.
+fn stream_word(words: &[String], plan: &Plan, is_second: bool) -> usize {
+    let (name, input) = match &plan.second {
+        Some(second) if is_second => (second.as_str(), Input::Second),
+        _ => (plan.first.as_str(), Input::First),
+    };
+    if is_of_standard_input(name) {
+        return 0;
+    }
+    value_place(words, option_of(plan.command, input)).unwrap_or(0)
+}
+
+// How a call that was run ends. If its output has no reader any more, the script ends as bedtools does then.
+fn end(rt: &HostRuntime, finished: Finished<FrontInput<Opened>, Output>) -> u8 {
+    let has_failed = match &finished.left {
+        Some(left) => left.output.failed(),
+        None => false,
+    };
+    if has_failed && writes_to_pipe(rt) {
+        return GONE;
+    }
+    finished.message.print(rt);
+    finished.message.status
+}

@@ -1,0 +1,168 @@
+//! What the system has: streams, the pipe for the line, the environment.
+
+ghost use Rattle.std.specs.Prelude.{⊤};
+
+use crate::answering::Streams;
+use crate::line::Line;
+use crate::naming::is_stream_name;
+use crate::original::Original;
+use crate::system_programs::SystemPrograms;
+use bt_files::{Files, Opened, Output, SystemFiles, Unopened};
+use bt_tool::Plan;
+use std::fs::{File, OpenOptions};
+use std::io::Write;
+use std::os::unix::fs::FileTypeExt;
+use std::{env, fs, io};
+
+/// How many bytes of a stream are kept if DUNEKETTLE_ROOM doesn't say it.
+const ROOM: usize = 67_108_864;
+
+/// Opens the pipe of the descriptor that has this number, to write to it.
+pub fn open_pipe(rt: &HostRuntime, number: &str) -> io::Result<File> {
+    let mut name = String::from_str(rt.alloc(), "/dev/fd/")?;
+    name.push_str(number)?;
+    OpenOptions::new().write(true).open(rt, name.as_str())
+}
+
+/// Writes the line.
+pub fn say(rt: &HostRuntime, pipe: &mut File, line: &Line<'_>) -> io::Result<()> {
+    let text = line.text(rt.alloc())?;
+    pipe.write_all(text.as_slice())
+}
+
+/// How many bytes of a stream are kept; `None` if DUNEKETTLE_ROOM is no number.
+pub fn room(rt: &HostRuntime) -> Option<usize> {
+    match env::var(rt, "DUNEKETTLE_ROOM") {
+        Ok(text) if !text.is_empty() => text.as_str().parse::<usize>().ok(),
+        _ => Some(ROOM),
+    }
+}
+
+/// Which inputs of a plan are streams.
+pub fn streams_of(rt: &HostRuntime, plan: &Plan) -> Streams {
+    Streams {
+        genome: is_stream_if_named(rt, &plan.genome),
+        first: is_stream(rt, plan.first.as_str()),
+        second: is_stream_if_named(rt, &plan.second),
+    }
+}
+
+fn is_stream_if_named(rt: &HostRuntime, name: &Option<String>) -> bool {
+    match name {
+        Some(name) => is_stream(rt, name.as_str()),
+        None => false,
+    }
+}
+
+// Whether an input can't be looked at and then read again.
+fn is_stream(rt: &HostRuntime, name: &str) -> bool {
+    if is_stream_name(name) {
+        return true;
+    }
+    match fs::metadata(rt, name) {
+        Ok(found) => !found.is_file() && !found.is_dir(),
+        Err(_) => false,
+    }
+}
+
+/// Whether standard output is a pipe or a socket, whose reader may go away.
+pub fn writes_to_pipe(rt: &HostRuntime) -> bool {
+    match fs::metadata(rt, "/dev/stdout") {
+        Ok(found) => found.file_type().is_fifo() || found.file_type().is_socket(),
+        Err(_) => false,
+    }
+}
+
+/// The bedtools on PATH that takes what isn't run here. One whose path has a line feed can't be named in a line.
+pub fn find_original(rt: &HostRuntime) -> Original {
+    let Ok(path) = env::var(rt, "PATH") else {
+        return Original::Missing;
+    };
+    let programs = SystemPrograms { rt };
+    let found = match env::var(rt, "DUNEKETTLE_TRIED") {
+        Ok(tried) => Original::find(rt.alloc(), &programs, path.as_str(), tried.as_str()),
+        Err(_) => Original::find(rt.alloc(), &programs, path.as_str(), ""),
+    };
+    match found {
+        Ok(Original::Named(path)) if path.as_bytes().contains(&b'\n') => Original::Unclear,
+        Ok(found) => found,
+        Err(_) => Original::Unclear,
+    }
+}
+
+/// Says who takes a call, if DUNEKETTLE_TELL asks for it: on standard error, or in the file that it names.
+pub fn tell(rt: &HostRuntime, text: &str) {
+    let Ok(to) = env::var(rt, "DUNEKETTLE_TELL") else {
+        return;
+    };
+    let Ok(line) = format!(in rt.alloc(); "dunekettle: {text}\n") else {
+        return;
+    };
+    match to.as_str() {
+        "" | "0" => {}
+        "1" => {
+            let _ = rt.stderr().write_all(line.as_bytes());
+        }
+        name => {
+            if let Ok(mut file) = open_told(rt, name) {
+                let _ = file.write_all(line.as_bytes());
+            }
+        }
+    }
+}
+
+// A named pipe that is opened for both doesn't wait for a reader.
+fn open_told(rt: &HostRuntime, name: &str) -> io::Result<File> {
+    let is_pipe = match fs::metadata(rt, name) {
+        Ok(found) => found.file_type().is_fifo(),
+        Err(_) => false,
+    };
+    if is_pipe {
+        return OpenOptions::new().read(true).write(true).open(rt, name);
+    }
+    OpenOptions::new().append(true).create(true).open(rt, name)
+}
+
+/// The files of the system. When the output is made the line says so.
+#[derive(Drop)]
+pub struct DropInFiles<'r> {
+    pub system: SystemFiles<'r>,
+    pub pipe: File,
+    pub command: &'static str,
+}
+
+impl Files for DropInFiles<'_> {
+    type Input = Opened;
+
+    type Output = Output;
+
+    ghost opens = { λ before name input after. ⊤ };
+
+    ghost creates = { λ before name output after. ⊤ };
+
+    ghost refuses = { λ before name after. ⊤ };
+
+    // Before a stream is opened the line begins: from then on the shell doesn't take the call any more.
+    fn open(&mut self, name: &str) -> Result<Opened, Unopened> {
+        if is_stream(self.system.rt, name) {
+            let _ = say(self.system.rt, &mut self.pipe, &Line::Begins);
+        }
+        self.system.open(name)
+    }
+
+    fn standard_output(&mut self) -> Output {
+        let rt = self.system.rt;
+        let _ = say(rt, &mut self.pipe, &Line::Dunekettle);
+        let name = self.command;
+        if let Ok(text) = format!(in rt.alloc();
+            "Dunekettle takes {name}: its words and its files are as it takes them"
+        ) {
+            tell(rt, text.as_str());
+        }
+        self.system.standard_output()
+    }
+
+    fn create(&mut self, plan: &Plan, name: &str) -> Result<Output, Unopened> {
+        self.system.create(plan, name)
+    }
+}
