@@ -79,8 +79,8 @@ def with_mark(mark):
 
 
 def ended_by(shell, sent, what):
-    """The status after a signal. A bash can't end by SIGQUIT."""
-    return 128 + sent if "bash" in shell[0] and sent == signal.SIGQUIT and not what.startswith("is") else -sent
+    """The status after a signal. A bash and the sh of busybox can't end by SIGQUIT."""
+    return 128 + sent if "dash" not in shell[0] and sent == signal.SIGQUIT and not what.startswith("is") else -sent
 
 
 class Stub(unittest.TestCase):
@@ -269,18 +269,22 @@ class Stub(unittest.TestCase):
                 self.assertLess(took, 0.1, (shell, name, sent))
 
     def test_signals_at_any_time(self):
+        # A signal in the microseconds before a shell reads is heeded once it has read, or with the next one.
         if is_busy("signals at any time"):
             return
         for shell in known(PIPES):
+            late = 0
             for count in range(80):
-                play, sent = ("tell d; exec sleep 60", 'tell "s 0 $OTHER"; exec sleep 60')[count // 4 % 2], SIGNALS[count % 4]
-                env = environment(OTHER=str(self.other), PLAY=play, SAYS="exec sleep 60", MARK=str(self.top))
+                play = ("tell d; exec sleep 60", 'tell "s 0 $OTHER"; exec sleep 60')[count // 3 % 2]
+                sent = (signal.SIGHUP, signal.SIGINT, signal.SIGTERM)[count % 3]
+                env = environment(OTHER=str(self.other), PLAY=f"sleep 0.01; {play}", SAYS="exec sleep 60", MARK=str(self.top))
                 with subprocess.Popen([*shell, self.stub, "merge"], env=env, stdin=subprocess.DEVNULL, stdout=subprocess.DEVNULL, stderr=subprocess.DEVNULL) as child:
                     time.sleep(0.0003 * count)
                     child.send_signal(sent)
-                    status = child.wait(timeout=20)
-                self.assertIn(status, (-sent, ended_by(shell, sent, "")), (shell, count))
-                self.assertEqual(with_mark(self.top), [], (shell, count))
+                    begun = time.monotonic()
+                    self.assertEqual((child.wait(timeout=20), with_mark(self.top)), (-sent, []), (shell, count))
+                    late += time.monotonic() - begun > 1
+            self.assertLessEqual(late, 2, shell)
 
     def test_ignored_signals(self):
         for shell in known(PIPES):
