@@ -228,7 +228,7 @@ def try_streams(place, folder, count):
                 script = f"bedtools {line} {source}" if "|" not in source else f"{source} bedtools {line}"
                 status = shell(script, folder, {**alone, "DUNEKETTLE_STREAMS": asked})[2]
                 # The program of the drop-in takes an empty stream; the script copies no device.
-                is_ours = line in known or line in seen and (source or asked == "0" and line in native)
+                is_ours = line in known or line in seen and (source or asked == "0" and line in native) and (asked == "0" or "-S" not in line)
                 count.expect(f"a stream: {script}, STREAMS={asked}", 0 if is_ours else 7, status)
     (folder / "link.bed").unlink()
     found = call(["bedtools", "merge"], folder, {**alone, "DUNEKETTLE_STREAMS": "1"}, input=FILES["f.bed"])
@@ -415,8 +415,9 @@ def try_rest(place, folder, count):
     (top / "spoils" / "awk").write_text(f'#!/bin/sh\n{shutil.which("awk")} "$@"\nstatus=$?\nprintf "chr1\\t9\\t12\\nchr1\\t2\\t6\\n" > changes.bed\nexit $status\n', encoding="utf-8")
     (top / "spoils" / "awk").chmod(0o755)
     (folder / "changes.bed").write_bytes(FILES["f.bed"])
-    found = call(["bedtools", "intersect", "-wo", "-a", "changes.bed", "-b", "f.bed"], folder, looking(drop_in(place), top / "spoils"))
-    count.expect("a file that changes", (b"", "bedtools intersect: changes.bed:2: record is out of order\n", 1), found)
+    found = call([place / "lib" / "dunekettle" / "script" / "bedtools", "merge", "-i", "changes.bed"], folder, looking(drop_in(place), top / "spoils"))
+    count.expect("a file that changes", (b"", "bedtools merge: changes.bed:2: record is out of order\n", 1), found)
+    try_a_change(place, folder, count)
     for name, there in (("missing", top / "nowhere"), ("a file", folder / "f.bed")):
         found = call([place / "bin" / "dunekettle", "merge", "-i", "unsorted.bed"], folder, looking(TMPDIR=str(there)))
         count.expect(f"temporary folder {name}", (2, 1), (len(found[1].splitlines()), found[2]))
@@ -447,6 +448,41 @@ def try_rest(place, folder, count):
         found = call([*words, drop_in(place) / "bedtools", "intersect", "-s", "-u", "-a", "f.bed", "-b", "dot.bed"], folder,
                      {**looking(), "DUNEKETTLE_TELL": "1", "PATH": os.pathsep.join(map(str, [top / "says", top / "tools"]))})
         count.expect(f"{name}: strands", (7, True), (found[2], "records without a strand" in found[1]))
+
+
+def try_a_change(place, folder, count):
+    """A file that changes after the program of the drop-in has looked at its first line, before it reads it again."""
+    env, changed = looking(drop_in(place)), False
+    text = b"".join(b"chr1\t%d\t%d\n" % (n, n + 5) for n in range(3_000_000, 5_000_000))
+    for _ in range(20):
+        (folder / "grows.bed").write_bytes(text)
+        with subprocess.Popen(["bedtools", "merge", "-i", "grows.bed"], cwd=folder, env=env, stdout=subprocess.PIPE, stderr=subprocess.PIPE) as child:
+            while child.poll() is None and not reads_at(child.pid, folder / "grows.bed"):
+                pass
+            with (folder / "grows.bed").open("r+b") as file:
+                file.seek(9 * len(b"chr1\t3000000\t3000005\n"))
+                file.write(b"chr1\t2000000")
+            output, said = child.communicate()
+        # It may have changed before the first look was there, or after the second reading.
+        changed = said == b"bedtools merge: grows.bed:10: record is out of order\n"
+        count.expect("a file that changes in the look", True, not changed or (output, child.returncode) == (b"", 1))
+        if changed:
+            break
+    (folder / "grows.bed").unlink()
+    if not changed:
+        print("a file that changes in the look: this machine was too quick, or too slow, in 20 calls")
+
+
+def reads_at(process, file):
+    """How far a process that a call has started is in a file."""
+    try:
+        for child in Path(f"/proc/{process}/task/{process}/children").read_text(encoding="utf-8").split():
+            for link in Path(f"/proc/{child}/fd").iterdir():
+                if os.readlink(link) == str(file):
+                    return int(Path(f"/proc/{child}/fdinfo/{link.name}").read_text(encoding="utf-8").split()[1])
+    except OSError:
+        pass
+    return 0
 
 
 def try_awks(place, folder, count):
