@@ -252,8 +252,7 @@ def try_streams(place, folder, count):
     (folder / "link to other").unlink()
     (folder / "pipe").unlink()
     (folder / "other").unlink()
-    found = shell("bedtools merge < .", folder, alone)
-    count.expect("a stream that can't be read", ("dunekettle: a stream was lost\n", 1), found[1:])
+    count.expect("a stream of which nothing can be read", (b"merge\0", "", 7), shell("bedtools merge < .", folder, alone))
     lost = "dunekettle: a stream is lost: it cannot be read, or TMPDIR has no room for it\n"
     count.expect("a stream that can't be copied", (b"", lost, 1), shell("bedtools intersect -wo -a - -b f.bed < .", folder, alone))
 
