@@ -29,6 +29,8 @@ DEB = dunekettle-bedtools_$(VERSION)_$(or $(CPU),$(shell dpkg --print-architectu
 UNITTEST := python3 -m unittest discover -t .
 
 PROGRAM := bin/$(if $(CPU),$(CPU)/)bedtools
+# The program that decides who takes a call of the drop-in.
+DROP_IN := bin/$(if $(CPU),$(CPU)/)drop-in
 # What the prover and the compiler say.
 LOG := bin/build.log
 SOURCES := crates.txt $(shell find crates -name out -prune -o -type f \( -name '*.rt' -o -name '*.antt' \) -print)
@@ -40,7 +42,7 @@ DOCS := README.md CHANGELOG.md LICENSE $(wildcard docs/*.md docs/*.svg) bench/RE
 .PHONY: all built example test mutants definitions check-docs check-program check-speed check-differences check-front check-shards \
 	check-packages generated completions pictures install uninstall dist deb clean
 
-all: $(PROGRAM)
+all: $(PROGRAM) $(DROP_IN)
 
 # A program has the version in a section of its own.
 define finish
@@ -66,9 +68,19 @@ define kit
 	echo 'Ask for it whoever gave you this, and put its folder bin on PATH: export PATH=/where/it/is/bin:$$PATH'; exit 1; }
 endef
 
-# Takes the program that `rt ci` built.
+$(DROP_IN): $(SOURCES)
+	$(kit)
+	@mkdir -p $(@D)
+	@echo "Proving what changed and building $@; the prover's output goes to $(LOG)."
+	@cd crates/drop_in && rt run $(if $(CPU),--cpu $(CPU)) -- 1 > ../../$(LOG) 2>&1 || \
+	{ tail -n 20 ../../$(LOG); echo "Not built: see $(LOG)."; exit 1; }
+	@cp crates/drop_in/out/drop_in $@
+	@echo "Built $@."
+
+# Takes the programs that `rt ci` built.
 built:
 	@cp crates/bedtools/out/bedtools $(PROGRAM)
+	@cp crates/drop_in/out/drop_in $(DROP_IN)
 	$(finish)
 
 example: $(PROGRAM)
@@ -120,9 +132,10 @@ check-differences: $(PROGRAM)
 
 # The front and the drop-in: hostile cases, streams and the temporary folder, random command lines, what calls cost, and
 # pipelines, unchanged, with the drop-in first on PATH.
-check-front: $(PROGRAM)
+check-front: $(PROGRAM) $(DROP_IN)
 	! command -v shellcheck > /dev/null || \
-	shellcheck -x front/dunekettle front/*.sh packaging/*.sh tests/packages/*.sh tests/drop_in/pipelines/*.sh recipes/*.sh shards/*.sh
+	shellcheck -x front/bedtools front/dunekettle front/*.sh packaging/*.sh tests/packages/*.sh tests/drop_in/pipelines/*.sh recipes/*.sh shards/*.sh
+	tests/drop_in/front_stub.py
 	tests/drop_in/front_hostile.py
 	tests/drop_in/front_streams.py
 	tests/drop_in/front_random.py
@@ -135,7 +148,7 @@ check-shards: $(PROGRAM)
 	$(UNITTEST) -s tests/recipes -p test_shards.py
 
 # What make install, make dist and make deb make, tried in folders of their own.
-check-packages: $(PROGRAM)
+check-packages: $(PROGRAM) $(DROP_IN)
 	tests/packages/check.sh
 
 # Help, completions, manual pages, and the parts of pages and scripts between marks. COMMANDS.md comes before the manual pages,
@@ -158,20 +171,20 @@ pictures:
 is_silent = $(findstring s,$(filter-out -%,$(firstword $(MAKEFLAGS))))
 
 # The manual pages and the completions get the program's name there.
-install: $(PROGRAM)
-	packaging/install.sh "$$DESTDIR$$PREFIX" "$$PREFIX" "$$NAME" $(PROGRAM) $(DOCS)
+install: $(PROGRAM) $(DROP_IN)
+	packaging/install.sh "$$DESTDIR$$PREFIX" "$$PREFIX" "$$NAME" $(PROGRAM) $(DROP_IN) $(DOCS)
 	$(if $(is_silent),,@[ -n "$$DESTDIR" ] || printf '%s\n' "Installed: $$PREFIX/bin/dunekettle. The drop-in:" \
 	"    export PATH=\"$$PREFIX/lib/dunekettle/bin:\$$PATH\"")
 
 uninstall:
 	packaging/uninstall.sh "$$DESTDIR$$PREFIX" "$$NAME"
 
-dist: $(PROGRAM)
+dist: $(PROGRAM) $(DROP_IN)
 	rm -rf bin/$(DIST)
 	$(MAKE) install DESTDIR="$(CURDIR)/bin/$(DIST)/" PREFIX=. NAME="$$NAME"
 	packaging/dist.sh bin/$(DIST) $(DATE)
 
-deb: $(PROGRAM)
+deb: $(PROGRAM) $(DROP_IN)
 	rm -rf bin/deb
 	$(MAKE) install DESTDIR="$(CURDIR)/bin/deb" PREFIX=/usr NAME=dunekettle-bedtools
 	packaging/deb.sh bin/deb $(VERSION) $(DATE) bin/$(DEB)

@@ -21,7 +21,7 @@ top=$(dirname "$0")/..
 # Another gzip writes other bytes.
 case $(gzip --version 2> /dev/null | head -n 1) in 'gzip 1.'*) ;; *) echo 'make deb needs the gzip of GNU' >&2; exit 1 ;; esac
 command -v strip > /dev/null || { echo 'make deb needs strip, of binutils' >&2; exit 1; }
-strip --remove-section=.comment --remove-section=.note "$folder/usr/bin/$name"
+strip --remove-section=.comment --remove-section=.note "$folder/usr/bin/$name" "$folder/usr/lib/dunekettle/drop-in"
 
 # Debian's licence is the file copyright, which has the text, and its zsh looks in a folder of its own.
 rm "$doc/LICENSE"
@@ -38,8 +38,8 @@ END
 gzip -9 -n "$doc/changelog" "$folder"/usr/share/man/man1/*.1
 find "$folder/usr" -type d -exec chmod 755 {} +
 
-# The C library is asked for in the version whose symbols the program names.
-libc=$(grep -a -o 'GLIBC_2\.[0-9]*' "$folder/usr/bin/$name" | sed 's/GLIBC_//' | sort -V | tail -n 1)
+# The C library is asked for in the version whose symbols the programs name.
+libc=$(cat "$folder/usr/bin/$name" "$folder/usr/lib/dunekettle/drop-in" | grep -a -o 'GLIBC_2\.[0-9]*' | sed 's/GLIBC_//' | sort -V | tail -n 1)
 # Kilobytes as dpkg counts them, each file in whole ones and each folder as one: what du says goes by the file system.
 size=$(find "$folder/usr" -printf '%y %s\n' | awk '{ sum += $1 == "f" ? int(($2 + 1023) / 1024) : 1 } END { print sum }')
 mkdir -p "$folder/DEBIAN"

@@ -3,17 +3,17 @@
 { # The shell reads all of it before it runs any, so that a script that was cut ends with an error.
 # Installs the program, the front, the drop-in, the recipes, the pages, the manual pages and the completions.
 #
-#     packaging/install.sh ROOT AT NAME PROGRAM DOC..
+#     packaging/install.sh ROOT AT NAME PROGRAM DROP_IN DOC..
 #
-# ROOT is the folder of the installation now, AT where it will be, NAME the program's name in ROOT/bin. Each file is
-# written beside its place and then renamed: whoever runs it meanwhile has the old one or the new one, whole. All users can
+# ROOT is the folder of the installation now, AT where it will be, NAME the program's name in ROOT/bin, and DROP_IN the
+# program of the drop-in. Each file is written beside its place and then renamed: whoever runs it meanwhile has the old one or the new one, whole. All users can
 # read what is installed, whatever the umask. What is beside it already, as a link that another user has put there, is
 # removed, and never written to.
 set -euC
 umask 022
 
-root=$1 at=$2 name=$3 program=$4
-shift 4
+root=$1 at=$2 name=$3 program=$4 drop_in=$5
+shift 5
 top=$(dirname "$0")/..
 share=$root/share
 commands='merge|complement|intersect|subtract|genomecov|bamtobed|maskfasta'
@@ -61,8 +61,12 @@ done
 put 644 "$root/lib/dunekettle/help.txt" sed "s|share/doc/dunekettle-bedtools|share/doc/$name|" "$top/generated/help.txt"
 put 755 "$root/bin/$name" cat "$program"
 put 755 "$root/bin/dunekettle" sed "s|^dk_name=.*|dk_name=$name|" "$top/front/dunekettle"
-for file in bedtools mergeBed complementBed intersectBed subtractBed genomeCoverageBed maskFastaFromBed bamToBed; do
-    link ../../../bin/dunekettle "$root/lib/dunekettle/bin/$file"
+put 755 "$root/lib/dunekettle/drop-in" cat "$drop_in"
+link ../../../bin/dunekettle "$root/lib/dunekettle/script/bedtools"
+# An installation before this one has a link there, which the rename replaces.
+put 755 "$root/lib/dunekettle/bin/bedtools" sed "s|^dk_name=[^ ]*|dk_name=$name|" "$top/front/bedtools"
+for file in mergeBed complementBed intersectBed subtractBed genomeCoverageBed maskFastaFromBed bamToBed; do
+    link bedtools "$root/lib/dunekettle/bin/$file"
 done
 
 # The scripts call the program by its name there. They aren't below share/doc, which some systems leave out; a link leads

@@ -14,6 +14,7 @@ from pathlib import Path
 TOP = Path(__file__).resolve().parent.parent
 # Another program than the one in bin/ may be tried: PROGRAM=FILE.
 PROGRAM = str(Path(os.environ.get("PROGRAM", TOP / "bin" / "bedtools")).resolve())
+DROP_IN = TOP / "bin" / "drop-in"
 FAILED = TOP / "bin" / "failed"
 
 

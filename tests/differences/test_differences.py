@@ -20,7 +20,7 @@ from pathlib import Path
 from typing import NamedTuple
 
 from tests.differences.trials import FILES, SAID, TRIALS, Trial
-from tests.support import PROGRAM, TOP, Counted, each
+from tests.support import DROP_IN, PROGRAM, TOP, Counted, each
 
 from migrating import differences, options
 
@@ -116,7 +116,7 @@ class WithDropIn(BesideOriginal):
     def setUpClass(cls):
         super().setUpClass()
         place = cls.folder / "there"
-        subprocess.run([TOP / "packaging" / "install.sh", place, place, "dunekettle-bedtools", PROGRAM], check=True)
+        subprocess.run([TOP / "packaging" / "install.sh", place, place, "dunekettle-bedtools", PROGRAM, DROP_IN], check=True)
         cls.drop_in = place / "lib" / "dunekettle" / "bin" / "bedtools"
         cls.told = cls.folder / "told.txt"
         cls.takers = {row.name: row.taker for row in differences()}

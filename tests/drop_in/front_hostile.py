@@ -136,7 +136,8 @@ def try_paths(place, folder, count):
             env = {**looking(), "PATH": f"{drop_in(place)}:{few}:{says}"}
             count.expect(f"no {missing}: {line}", 7, call(["bedtools", *line.split()], folder, env)[2])
     parts = [f"lib/dunekettle/{name}.sh" for name in ("words", "worth", "files", "copies", "streams", "pour", "judge", "plan", "hints")]
-    for part in (*parts, "bin/dunekettle-bedtools", "lib/dunekettle/help.txt"):
+    listed, wanted_hits = "intersect -wo -a f.bed -b f.bed", call([drop_in(place) / "bedtools", *"intersect -wo -a f.bed -b f.bed".split()], folder, looking())
+    for part in (*parts, "bin/dunekettle-bedtools", "lib/dunekettle/help.txt", "lib/dunekettle/drop-in", "lib/dunekettle/script/bedtools"):
         for how in ("missing", "empty", "half", "a folder"):
             broken = install(top / f"{Path(part).name} {how}")
             text = (broken / part).read_bytes()
@@ -147,9 +148,15 @@ def try_paths(place, folder, count):
                 (broken / part).write_bytes(text[: len(text) // 2 if how == "half" else 0])
                 (broken / part).chmod(0o755)
             env = {**looking(), "PATH": f"{drop_in(broken)}:{tools}:{says}"}
-            is_needed = "help" not in part and "hints" not in part
-            output, said, status = call(["bedtools", "merge", "-i", "f.bed"], folder, env)
-            count.expect(f"{part} {how}", (b"merge\0-i\0f.bed\0", "", 7) if is_needed else (MERGED, "", 0), (output, said, status))
+            # The program of the drop-in runs a call by itself; the script runs it if that is broken, and takes what it leaves.
+            output, _, status = call(["bedtools", "merge", "-i", "f.bed"], folder, env)
+            is_lost = part.endswith("script/bedtools") and how == "missing"
+            count.expect(f"{part} {how}", (b"merge\0-i\0f.bed\0", 7) if is_lost else (MERGED, 0), (output, status))
+            if part.endswith("script/bedtools") and not is_lost:
+                continue
+            is_needed = "help" not in part and "hints" not in part and "drop-in" not in part
+            output, _, status = call(["bedtools", *listed.split()], folder, env)
+            count.expect(f"{part} {how}: {listed}", (listed.replace(" ", "\0").encode() + b"\0", 7) if is_needed else wanted_hits[::2], (output, status))
             count.expect(f"{part} {how}: --version", (b"bedtools v2.30.0\n", "", 0), call(["bedtools", "--version"], folder, env))
             if "bedtools" not in part and how != "half":
                 status = call([broken / "bin" / "dunekettle", "merge", "-i", "unsorted.bed"], folder, env)[2]
@@ -210,7 +217,9 @@ def try_streams(place, folder, count):
              "complement -i stdin -g g.txt", "intersect -a - -b f.bed -u", "intersect -sorted -a - -b f.bed -u", "genomecov -bg -i - -g g.txt", "subtract -a f.bed -b /dev/fd/0",
              "merge -i link.bed", "merge -i /dev/./stdin")
     seen = ("intersect -sorted -g g.txt -s -u -a - -b f.bed", "intersect -f 0.5 -u -a - -b f.bed", "genomecov -bga -i - -g g.txt", "genomecov -i - -g g.txt")
-    theirs = ("intersect -sorted -a - -b /dev/stdin", "bamtobed", "bamtobed -i -", "maskfasta -fi s.fa -bed -", "maskfasta -fi - -bed f.bed", "merge -S + -i -", "complement -g g.txt",
+    native = ("intersect -sorted -g g.txt -s -u -a - -b f.bed", "intersect -f 0.5 -u -a - -b f.bed", "genomecov -bga -i - -g g.txt", "merge -S + -i -")
+    seen = (*seen, "merge -S + -i -")
+    theirs = ("intersect -sorted -a - -b /dev/stdin", "bamtobed", "bamtobed -i -", "maskfasta -fi s.fa -bed -", "maskfasta -fi - -bed f.bed", "complement -g g.txt",
               "genomecov -bg -g g.txt", "merge -i f.bed.gz -", "intersect -sorted -u -a - -b unsorted.bed")
     (folder / "link.bed").symlink_to("/dev/stdin")
     for line in (*known, *seen, *theirs):
@@ -218,7 +227,8 @@ def try_streams(place, folder, count):
             for source in ("", "< f.bed", "cat f.bed |"):
                 script = f"bedtools {line} {source}" if "|" not in source else f"{source} bedtools {line}"
                 status = shell(script, folder, {**alone, "DUNEKETTLE_STREAMS": asked})[2]
-                is_ours = line in known and (source or asked == "1") or line in seen and source
+                # The program of the drop-in takes an empty stream; the script copies no device.
+                is_ours = line in known or line in seen and (source or asked == "0" and line in native) and (asked == "0" or "-S" not in line)
                 count.expect(f"a stream: {script}, STREAMS={asked}", 0 if is_ours else 7, status)
     (folder / "link.bed").unlink()
     found = call(["bedtools", "merge"], folder, {**alone, "DUNEKETTLE_STREAMS": "1"}, input=FILES["f.bed"])
@@ -242,8 +252,9 @@ def try_streams(place, folder, count):
     (folder / "link to other").unlink()
     (folder / "pipe").unlink()
     (folder / "other").unlink()
+    count.expect("a stream of which nothing can be read", (b"merge\0", "", 7), shell("bedtools merge < .", folder, alone))
     lost = "dunekettle: a stream is lost: it cannot be read, or TMPDIR has no room for it\n"
-    count.expect("a stream that can't be read", (b"", lost, 1), shell("bedtools merge < .", folder, alone))
+    count.expect("a stream that can't be copied", (b"", lost, 1), shell("bedtools intersect -wo -a - -b f.bed < .", folder, alone))
 
 
 def try_signals(place, folder, count):
@@ -403,8 +414,9 @@ def try_rest(place, folder, count):
     (top / "spoils" / "awk").write_text(f'#!/bin/sh\n{shutil.which("awk")} "$@"\nstatus=$?\nprintf "chr1\\t9\\t12\\nchr1\\t2\\t6\\n" > changes.bed\nexit $status\n', encoding="utf-8")
     (top / "spoils" / "awk").chmod(0o755)
     (folder / "changes.bed").write_bytes(FILES["f.bed"])
-    found = call(["bedtools", "merge", "-i", "changes.bed"], folder, looking(drop_in(place), top / "spoils"))
+    found = call([place / "lib" / "dunekettle" / "script" / "bedtools", "merge", "-i", "changes.bed"], folder, looking(drop_in(place), top / "spoils"))
     count.expect("a file that changes", (b"", "bedtools merge: changes.bed:2: record is out of order\n", 1), found)
+    try_a_change(place, folder, count)
     for name, there in (("missing", top / "nowhere"), ("a file", folder / "f.bed")):
         found = call([place / "bin" / "dunekettle", "merge", "-i", "unsorted.bed"], folder, looking(TMPDIR=str(there)))
         count.expect(f"temporary folder {name}", (2, 1), (len(found[1].splitlines()), found[2]))
@@ -420,7 +432,7 @@ def try_rest(place, folder, count):
     (top / "dies" / "mktemp").write_text(f'#!/bin/sh\n{shutil.which("mktemp")} "$@"\nkill -s KILL $$\n', encoding="utf-8")
     (top / "dies" / "mktemp").chmod(0o755)
     died = {**env, "PATH": os.pathsep.join(map(str, [drop_in(place), top / "dies", top / "says", top / "tools"]))}
-    count.expect("a mktemp that dies", (7, []), (call(["bedtools", "merge", "-i", "f.bed"], folder, died)[2], list(temporary.iterdir())))
+    count.expect("a mktemp that dies", (7, []), (call(["bedtools", "intersect", "-wo", "-a", "f.bed", "-b", "f.bed"], folder, died)[2], list(temporary.iterdir())))
     for words in (["dash"], ["bash", "--posix"], ["busybox", "sh"], ["zsh", "--emulate", "sh"], ["ksh"], ["mksh"], ["yash"]):
         if not shutil.which(words[0]):
             print(f"no {words[0]}: passed over")
@@ -435,6 +447,41 @@ def try_rest(place, folder, count):
         found = call([*words, drop_in(place) / "bedtools", "intersect", "-s", "-u", "-a", "f.bed", "-b", "dot.bed"], folder,
                      {**looking(), "DUNEKETTLE_TELL": "1", "PATH": os.pathsep.join(map(str, [top / "says", top / "tools"]))})
         count.expect(f"{name}: strands", (7, True), (found[2], "records without a strand" in found[1]))
+
+
+def try_a_change(place, folder, count):
+    """A file that changes after the program of the drop-in has looked at its first line, before it reads it again."""
+    env, changed = looking(drop_in(place)), False
+    text = b"".join(b"chr1\t%d\t%d\n" % (n, n + 5) for n in range(3_000_000, 5_000_000))
+    for _ in range(20):
+        (folder / "grows.bed").write_bytes(text)
+        with subprocess.Popen(["bedtools", "merge", "-i", "grows.bed"], cwd=folder, env=env, stdout=subprocess.PIPE, stderr=subprocess.PIPE) as child:
+            while child.poll() is None and not reads_at(child.pid, folder / "grows.bed"):
+                pass
+            with (folder / "grows.bed").open("r+b") as file:
+                file.seek(9 * len(b"chr1\t3000000\t3000005\n"))
+                file.write(b"chr1\t2000000")
+            output, said = child.communicate()
+        # It may have changed before the first look was there, or after the second reading.
+        changed = said == b"bedtools merge: grows.bed:10: record is out of order\n"
+        count.expect("a file that changes in the look", True, not changed or (output, child.returncode) == (b"", 1))
+        if changed:
+            break
+    (folder / "grows.bed").unlink()
+    if not changed:
+        print("a file that changes in the look: this machine was too quick, or too slow, in 20 calls")
+
+
+def reads_at(process, file):
+    """How far a process that a call has started is in a file."""
+    try:
+        for child in Path(f"/proc/{process}/task/{process}/children").read_text(encoding="utf-8").split():
+            for link in Path(f"/proc/{child}/fd").iterdir():
+                if os.readlink(link) == str(file):
+                    return int(Path(f"/proc/{child}/fdinfo/{link.name}").read_text(encoding="utf-8").split()[1])
+    except OSError:
+        pass
+    return 0
 
 
 def try_awks(place, folder, count):
@@ -470,7 +517,7 @@ def try_awks(place, folder, count):
         is_silent = call(["sh", "-c", "awk 'BEGIN { print 1 }' > /dev/full"], folder, env)[2] == 0
         for line in (*ours, *theirs):
             words = ["bedtools", *line.split(" ")]
-            is_ours = line in ours and not (is_silent and line.startswith(("genomecov", "intersect -wa -wb", "intersect -wo")))
+            is_ours = line in ours and (line == "genomecov -bga -i d.bed -g g.txt" or not (is_silent and line.startswith(("genomecov", "intersect -wa -wb", "intersect -wo"))))
             count.expect(f"{name}: {line}", 0 if is_ours else 7, call(words, folder, env)[2])
         reports[name] = call([place / "bin" / "dunekettle", "check", "--json", *sorted(file.name for file in folder.iterdir() if file.name != "-x")], folder, env)[0]
         count.expect(f"{name}: check", True, len(reports[name]) > 1000 and len(set(reports.values())) == 1)

@@ -1,5 +1,5 @@
 #!/usr/bin/env python3
-"""Tries what may go wrong with streams that the drop-in copies, and with its files in TMPDIR.
+"""Tries what may go wrong with streams that the drop-in reads or copies, and with its files in TMPDIR.
 
     tests/drop_in/front_streams.py
 
@@ -114,25 +114,29 @@ def try_losses(place, folder, count):
     """A copy that fails, and one that isn't fed any longer: a fault and a status."""
     broken = fake(folder.parent / "broken head", "head", f'[ "$1" != -c ] || [ "$2" -le 1 ] || {{ {shutil.which("head")} -c 100; exit 1; }}; exec {shutil.which("head")} "$@"')
     env = looking(drop_in(place), broken)
-    for script in ("cat a.bed | bedtools merge", "bedtools intersect -u -a <(cat a.bed) -b <(cat a.bed)"):
+    for script in ("cat wide.bed | bedtools intersect -wo -a - -b a.bed", "bedtools intersect -u -a <(cat a.bed) -b <(cat a.bed)"):
         found = call(["bash", "-c", script], folder, env)
         count.expect(f"a copy that fails: {script}", (b"", 1, True), (found[0], found[2], "a stream is lost" in found[1]))
     # A head that takes more than it is told, as that of busybox, gets no stream.
     greedy = fake(folder.parent / "greedy head", "head", f'{shutil.which("dd")} bs=4096 count=1 2> /dev/null | {shutil.which("head")} "$@"')
-    for script in ("cat a.bed | bedtools merge", "bedtools intersect -u -a <(cat a.bed) -b <(cat a.bed)"):
+    for script in ("cat a.bed | bedtools merge", "cat wide.bed | bedtools intersect -wo -a - -b a.bed", "bedtools intersect -u -a <(cat a.bed) -b <(cat a.bed)"):
         wanted, found = (call(["bash", "-c", script], folder, env) for env in (looking(), looking(drop_in(place), greedy, DUNEKETTLE_ROOM="1000")))
         count.expect(f"a head that takes too much: {script}", wanted, found)
     little = fake(folder.parent / "little room", "df", "printf 'a\\na 1 1 1 1 a\\n'")
-    found = call(["bash", "-c", "cat a.bed | bedtools merge"], folder, looking(drop_in(place), little, DUNEKETTLE_TELL="1"))
-    count.expect("little room", ("/usr/bin/bedtools", 0), (TOLD.findall(found[1])[0][0].replace(str(original()), "/usr/bin/bedtools"), found[2]))
+    # What is kept in memory needs no room there.
+    for script, taker in (("cat wide.bed | bedtools intersect -wo -a - -b a.bed", str(original())), ("cat a.bed | bedtools merge", "Dunekettle")):
+        found = call(["bash", "-c", script], folder, looking(drop_in(place), little, DUNEKETTLE_TELL="1"))
+        count.expect(f"little room: {script}", (taker, 0), (TOLD.findall(found[1])[0][0], found[2]))
     if is_busy("a feeder that is killed"):
         return
-    child = start("(head -n 4000 a.bed; sleep 2; tail -n 4000 a.bed) | bedtools merge > /dev/null; exit ${PIPESTATUS[1]}", place, folder, DUNEKETTLE_ROOM="1000")
-    time.sleep(1)
-    feeders = [pid for pid, comm in started_by(child.pid) if comm == "cat"]
-    for pid in feeders:
-        os.kill(pid, signal.SIGKILL)
-    count.expect("a stream that isn't fed any longer", (1, 1), (len(feeders), child.wait(timeout=20)))
+    slow = "(head -n 4000 a.bed; sleep 2; tail -n 4000 a.bed) |"
+    for line, feeder in (("merge", "drop-in"), ("intersect -sorted -c -a - -b <(cat a.bed)", "cat")):
+        child = start(f"{slow} bedtools {line} > /dev/null; exit ${{PIPESTATUS[1]}}", place, folder, DUNEKETTLE_ROOM="1000")
+        time.sleep(1)
+        feeders = [pid for pid, comm in started_by(child.pid) if comm == feeder]
+        for pid in feeders:
+            os.kill(pid, signal.SIGKILL)
+        count.expect(f"a stream that isn't fed any longer: {line}", (True, 1), (bool(feeders), child.wait(timeout=20)))
 
 
 def start(script, place, folder, *first, **more):
@@ -164,7 +168,7 @@ def try_signals(place, folder, count):
     scripts = {
         "copies": ("exec bedtools merge -i <(sleep 60)", ()), "two copies": ("exec bedtools intersect -a <(sleep 60) -b <(cat a.bed)", ()),
         "opens": ("rm -f p q; mkfifo p q; cat a.bed > p & exec bedtools intersect -a p -b q", ()),
-        "looks": ("exec bedtools merge -i a.bed", (slow,)), "writes": ("exec bedtools genomecov -i a.bed -g g.txt", (awk,)), "writes hits": ("exec bedtools intersect -wo -a wide.bed -b a.bed", (awk,)),
+        "looks": ("exec bedtools intersect -wo -a wide.bed -b a.bed", (slow,)), "writes": ("exec bedtools genomecov -i a.bed -g g.txt", (awk,)), "writes hits": ("exec bedtools intersect -wo -a wide.bed -b a.bed", (awk,)),
         "pours": ("exec bedtools merge -i <(tee < a.bed; sleep 60)", ()), "pours two": ("exec bedtools intersect -sorted -a <(tee < a.bed; sleep 60) -b <(sleep 60)", ()),
     }
     temporary = folder.parent / "after signals"

@@ -14,7 +14,7 @@ from pathlib import Path
 TOP = Path(__file__).resolve().parents[2]
 # Where the tests of pages and the tools are.
 sys.path[:0] = [str(TOP), str(TOP / "tools")]
-PROGRAM = TOP / "bin" / "bedtools"
+PROGRAM, DROP_IN = TOP / "bin" / "bedtools", TOP / "bin" / "drop-in"
 # Who took a command line, as DUNEKETTLE_TELL says it.
 TOLD = re.compile(r"^dunekettle: (.*?) takes (\w*)", re.MULTILINE)
 # The tools that the front calls, and those of the trials.
@@ -33,8 +33,8 @@ def original():
 
 
 def install(prefix):
-    """Installs the program and its front into a folder, as `make install` does, without the pages."""
-    subprocess.run([TOP / "packaging" / "install.sh", prefix, prefix, "dunekettle-bedtools", PROGRAM], check=True)
+    """Installs both programs and the front into a folder, as `make install` does, without the pages."""
+    subprocess.run([TOP / "packaging" / "install.sh", prefix, prefix, "dunekettle-bedtools", PROGRAM, DROP_IN], check=True)
     return prefix
 
 

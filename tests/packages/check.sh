@@ -49,7 +49,11 @@ expect_front() {
     cp "$1/bin/dunekettle" "$folder/copy"
     expect "$2: a copy of the front" "chr1	2	9" "$(records | PATH=$1/bin:$PATH "$folder/copy" merge)"
     expect "$2: a reader that goes away" "141" "$(set +e; "$1/lib/dunekettle/bin/bedtools" merge -i "$folder/long.bed" | head -n 1 > /dev/null; echo "${PIPESTATUS[0]}")"
-    expect "$2: its links" "8" "$(find "$1/lib/dunekettle/bin" -type l -exec test -x {} \; -print | wc -l)"
+    expect "$2: its links" "7" "$(find "$1/lib/dunekettle/bin" -type l -exec test -x {} \; -print | wc -l)"
+    expect "$2: the drop-in's program" "bedtools drop-in script/bedtools" "$(cd "$1/lib/dunekettle" && for file in bin/bedtools drop-in script/bedtools; do [ ! -x "$file" ] || echo "${file#bin/}"; done | paste -s -d ' ')"
+    expect "$2: who takes a small file" "dunekettle: Dunekettle takes merge" "$(DUNEKETTLE_TELL=1 "$1/lib/dunekettle/bin/bedtools" merge -i "$folder/sorted.bed" 2>&1 > /dev/null | cut -d : -f 1,2)"
+    ln -sf "$1/lib/dunekettle/bin/mergeBed" "$folder/mergeBed"
+    expect "$2: a link to the drop-in" "chr1	2	9" "$("$folder/mergeBed" -i "$folder/sorted.bed")"
 }
 
 # Words that a shell offers for a begun command line, in one line.
@@ -118,10 +122,10 @@ for kind in recipes shards; do
 done
 rm "$folder/there/bin/dunekettle-bedtools"
 mapfile -t cut < <(printf '%s\n' "${scripts[@]}" | grep -v functions.sh)
-expect "installed scripts that are cut" "0" "$(tests/recipes/safe.py cut "${cut[@]}" "$folder/there/bin/dunekettle" packaging/install.sh packaging/uninstall.sh packaging/dist.sh packaging/deb.sh > "$folder/said.txt" 2>&1; echo $?)"
+expect "installed scripts that are cut" "0" "$(tests/recipes/safe.py cut "${cut[@]}" "$folder/there/bin/dunekettle" "$folder/there/lib/dunekettle/bin/bedtools" packaging/install.sh packaging/uninstall.sh packaging/dist.sh packaging/deb.sh > "$folder/said.txt" 2>&1; echo $?)"
 tail -n 3 "$folder/said.txt"
 if has shellcheck; then
-    expect "shellcheck of installed scripts" "" "$(shellcheck -x -P SCRIPTDIR -P "$folder/there/lib/dunekettle" "$folder/there/bin/dunekettle" "$folder"/there/lib/dunekettle/*.sh "${scripts[@]}" || true)"
+    expect "shellcheck of installed scripts" "" "$(shellcheck -x -P SCRIPTDIR -P "$folder/there/lib/dunekettle" "$folder/there/bin/dunekettle" "$folder/there/lib/dunekettle/bin/bedtools" "$folder"/there/lib/dunekettle/*.sh "${scripts[@]}" || true)"
 fi
 mv "$share/doc" "$folder/doc"
 expect "a recipe without the folder of pages" "$(records)" "$(PATH=$folder/there/bin:$PATH "$share/dunekettle/recipes/intersect-F.sh" -a "$folder/sorted.bed" -b "$folder/sorted.bed" -F 0.5 -u)"
@@ -162,10 +166,12 @@ expect "what a name ran" "no no" "$([ -e "$folder/hit" ] || echo no) $([ -e hit 
 expect "licences and the SBOM" "0" "$(packaging/licences.py > "$folder/said.txt"; echo $?)"
 cat "$folder/said.txt"
 if has readelf; then
-    expect "hardening: any address, no table is written later, no stack is run" "DYN NOW RELRO RW" "$({
-        readelf -hW bin/bedtools | sed -n 's/.*Type: *\([A-Z]*\).*/\1/p'
-        readelf -dW bin/bedtools | grep -o 'BIND_NOW' | sed 's/BIND_//'
-        readelf -lW bin/bedtools | sed -n 's/.*GNU_\(RELRO\) .*/\1/p; s/.*GNU_STACK .* \(RWE*\) .*/\1/p'; } | sort | paste -s -d ' ')"
+    for program in bin/bedtools bin/drop-in; do
+        expect "hardening of $program: any address, no table is written later, no stack is run" "DYN NOW RELRO RW" "$({
+            readelf -hW "$program" | sed -n 's/.*Type: *\([A-Z]*\).*/\1/p'
+            readelf -dW "$program" | grep -o 'BIND_NOW' | sed 's/BIND_//'
+            readelf -lW "$program" | sed -n 's/.*GNU_\(RELRO\) .*/\1/p; s/.*GNU_STACK .* \(RWE*\) .*/\1/p'; } | sort | paste -s -d ' ')"
+    done
 fi
 
 make --silent dist > "$folder/said.txt"
@@ -188,7 +194,7 @@ other=$(mktemp -d -p "$([ -w /dev/shm ] && echo /dev/shm || echo "$folder")")
 trap 'rm -rf "$folder" "$other"' EXIT
 cp -a . "$other/copy"
 [ "$(id -u)" != 0 ] || chown -R 65534 "$other"
-touch "$other/copy/bin/bedtools"
+touch "$other/copy/bin/bedtools" "$other/copy/bin/drop-in"
 elsewhere() {
     (umask 077; cd "$other/copy" && GZIP=-1 XZ_DEFAULTS=-0 XZ_OPT=-0 TAR_OPTIONS=--format=pax DPKG_DEB_COMPRESSOR_TYPE=gzip DPKG_DEB_THREADS_MAX=3 \
         LC_ALL=C.UTF-8 TZ=Asia/Tokyo make --silent "$@" > "$folder/said.txt" 2>&1)
