@@ -35,10 +35,11 @@ NOTES = {
     "bt_sweep": "the sweep over two inputs",
     "bt_seq": "SAM text, FASTA text",
     "bt_tool": "options, plan, run, outcome",
-    "bt_front": "words for bedtools",
+    "bt_front": "surveys, the verdict",
     "bt_laws": "laws",
     "bt_files": "files, a plan carried out, messages",
     "bedtools": "the program: words, main",
+    "drop_in": "the program of the drop-in",
 }
 
 
