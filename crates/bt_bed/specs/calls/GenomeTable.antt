@@ -1,5 +1,5 @@
 -- What a table of chromosomes holds, and what reading one does.
-use Rattle.std.specs.Prelude.{◌≡◌, ℕ, ◌-◌, ◌⊎◌, true, List, ◌++◌, take, map, Option, Some, None, Result, Ok, Err, IfSome, Vec, option_map, Bool, false}
+use Rattle.std.specs.Prelude.{◌≡◌, ℕ, ◌-◌, ◌⊎◌, true, List, ◌++◌, take, map, Option, Some, None, Result, Ok, Err, Vec, option_map, Bool, false}
 use Rattle.std.specs.Option.{option_to_list}
 use Rattle.std.specs.declared.alloc.Global.{Global}
 use Rattle.bt_lines.specs.declared.device.Source.{Ghosts as Source}

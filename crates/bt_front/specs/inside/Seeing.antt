@@ -1,5 +1,5 @@
 -- What a survey has seen of the records of a text.
-use Rattle.std.specs.Prelude.{ℕ, suc, ◌≡◌, ◌+◌, ◌-◌, ◌^◌, ◌<◌, ◌≤◌, ◌||◌, Bool, true, false, ◌⊎◌, List, [], ◌∷◌, ◌++◌, length, map, max, min, Option, Some, None, Result, Ok, Err, IfSome}
+use Rattle.std.specs.Prelude.{ℕ, suc, ◌≡◌, ◌+◌, ◌-◌, ◌^◌, ◌<◌, ◌≤◌, ◌||◌, true, false, ◌⊎◌, List, [], ◌∷◌, ◌++◌, length, map, max, min, None, Result, Ok, Err}
 use Rattle.std.specs.List.{list_any}
 use Rattle.bt_lines.specs.declared.device.Source.{Ghosts as Source}
 use Rattle.bt_lines.specs.calls.Reader.{Hands, IsKept, end_told, lines_given, fault_kept as line_fault, MayStillCome}

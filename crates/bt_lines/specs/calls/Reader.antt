@@ -1,5 +1,5 @@
 -- What a reader of lines holds, what its calls do, and the lines that are left of those buffered.
-use Rattle.std.specs.Prelude.{◌≡◌, ℕ, suc, ◌+◌, ◌-◌, ◌≤◌, Bool, true, false, List, ◌∷◌, drop, length, nat_lt, take, ◌≢◌, ◌^◌, ◌<◌, ◌⊎◌, [], ◌++◌, Option, Some, None, option_map, Result, Ok, Err, IfSome, IsSome, ⊤, vec_capacity}
+use Rattle.std.specs.Prelude.{◌≡◌, ℕ, suc, ◌+◌, ◌-◌, ◌≤◌, Bool, true, false, List, ◌∷◌, drop, length, nat_lt, take, ◌^◌, ◌<◌, ◌⊎◌, [], ◌++◌, Option, Some, None, option_map, Result, Ok, Err, IfSome, IsSome, ⊤, vec_capacity}
 use Rattle.bt_lines.specs.calls.Line.{Shown, ending_at, line_seen, line_feeds}
 use Rattle.bt_lines.specs.model.Lines.{TextLine, lines_from, whole_lines_from, bytes_in, spelled}
 use Rattle.bt_lines.specs.inside.Shape.{is_fed, held_at}

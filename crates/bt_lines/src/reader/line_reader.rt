@@ -52,13 +52,13 @@ pub struct LineReader<S> {
     ghost last: { IsLast (told_at state) (open_at state) (complete buffer) (unread buffer) },
 }
 
-#[tactic(auto, unfolding(crate::specs::calls::Reader::source_of, crate::specs::calls::Reader::input_of, crate::specs::calls::Reader::lines_given, crate::specs::calls::Reader::bytes_taken, crate::specs::calls::Reader::held, crate::specs::calls::Reader::fault_kept, crate::specs::calls::Reader::has_ended, crate::specs::calls::Reader::end_told, crate::specs::calls::Reader::bytes_left, crate::specs::calls::Reader::feeds_taken, crate::specs::calls::Reader::line_room))]
+#[tactic(auto, unfolding(crate::specs::calls::Reader::source_of, crate::specs::calls::Reader::input_of, crate::specs::calls::Reader::lines_given, crate::specs::calls::Reader::bytes_taken, crate::specs::calls::Reader::held, crate::specs::calls::Reader::fault_kept, crate::specs::calls::Reader::has_ended, crate::specs::calls::Reader::end_told, crate::specs::calls::Reader::lines_coming, crate::specs::calls::Reader::feeds_taken, crate::specs::calls::Reader::line_room))]
 impl<S: Source> LineReader<S> {
     ghost use Rattle.std.specs.Prelude.{◌≡◌, ℕ, List, suc, ◌<◌, ◌-◌, ◌≤◌, ◌^◌, None, Some, IsSome, Option, Ok, Err, [], false, true, option_map};
     ghost use Rattle.std.specs.Borrow.{sem};
     ghost use Rattle.std.specs.Io.BufRead.{Rests};
     ghost use Rattle.bt_lines.specs.contracts.reader.line_reader.LineReader.{the_row};
-    ghost use Rattle.bt_lines.specs.calls.Reader.{FillsItsRoom, FillsLines, IsKept, IsPrefix, IsTaken, TakesLines, buffered_bytes, buffered_in, is_open, IsSound, NextLine, feeds_taken, source_of, input_of, lines_given, bytes_taken, held, fault_kept, has_ended, lines_left, BeginsLines, lines_in};
+    ghost use Rattle.bt_lines.specs.calls.Reader.{FillsItsRoom, FillsLines, IsKept, IsPrefix, IsTaken, TakesLines, buffered_bytes, buffered_in, is_open, IsSound, NextLine, feeds_taken, source_of, input_of, lines_given, bytes_taken, held, fault_kept, has_ended, end_told, lines_coming, BeginsLines, lines_in};
     ghost use Rattle.bt_lines.specs.model.Lines.{text_lines};
     ghost use Rattle.bt_lines.specs.model.Fault.{read_failed};
     ghost use Rattle.bt_lines.specs.calls.Names.{fault_value};
@@ -67,12 +67,12 @@ impl<S: Source> LineReader<S> {
     pub fn new(alloc: Global, source: S, input: Input) -> LineReader<S>
         ensures source { source_of result ≡ source }
         ensures input { input_of result ≡ input }
-        ensures lines { lines_left S.left result ≡ option_map text_lines (S.left source) }
+        ensures lines { (rest : List ℕ) → lines_coming rest result ≡ text_lines rest }
         ensures none_given { lines_given result ≡ 0 }
         ensures none_taken { (bytes_taken result ≡ 0) × (held result ≡ []) }
         ensures none_fed { feeds_taken result ≡ 0 }
         ensures sound { IsSound S.Source result }
-        ensures going { (fault_kept result ≡ None) × (has_ended result ≡ false) }
+        ensures going { (fault_kept result ≡ None) × (has_ended result ≡ false) × (end_told result ≡ false) }
     {
         LineReader {
             source,

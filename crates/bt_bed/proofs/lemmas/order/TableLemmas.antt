@@ -1,5 +1,5 @@
 -- Lemmas on the entries of a genome file.
-use Rattle.bt_lines.proofs.Std.{common_steps, rules, ◌≡◌, ℕ, arith, false, List, [], ◌∷◌, ◌++◌, Option, Some, None, Result, Ok, Err, refl, sym, ap, ◌∙◌, append_assoc, append-nil, bytes_eq, or_parts, ◌⊎◌, IsErrAnd, OnOk, OnErr, inl, inr, suc, ◌+◌, ◌-◌, ◌^◌, ◌<◌, ◌≤◌, length, take, drop, IfSome, zero, true, map, subst, length-append, All-head, All-tail, All, Vec, is_some, option_map, position, slice_get, option_to_list, map-append, slice_get-map, position_from, keys_of, position_from-zero}
+use Rattle.bt_lines.proofs.Std.{common_steps, ◌≡◌, ℕ, arith, false, List, [], ◌∷◌, ◌++◌, Option, Some, None, Result, Ok, Err, refl, sym, ap, ◌∙◌, append_assoc, append-nil, bytes_eq, or_parts, ◌⊎◌, IsErrAnd, OnOk, OnErr, inl, inr, suc, ◌+◌, ◌-◌, ◌^◌, ◌<◌, ◌≤◌, length, take, zero, true, map, subst, length-append, All-head, All-tail, All, Vec, is_some, option_map, position, slice_get, option_to_list, map-append, slice_get-map, position_from, keys_of, position_from-zero}
 use Rattle.bt_lines.specs.model.Fault.{FaultValue, read_failed}
 use Rattle.bt_lines.specs.calls.Faults.{no_memory}
 use Rattle.bt_lines.specs.model.Lines.{TextLine}

@@ -1,7 +1,7 @@
 -- Lemmas on surveying a source.
-use Rattle.bt_lines.proofs.Std.{arith, ◌≡◌, ◌∙◌, ◌⊎◌, ℕ, ◌++◌, [], Consumes, IfSome, IsAtEnd, IsSome, List, None, Option, Some, ap, append-nil, append_assoc, false, false≢true, inl, inr, is_some, list_all, option_map, refl, subst, sym, true}
+use Rattle.bt_lines.proofs.Std.{◌≡◌, ◌∙◌, ◌⊎◌, ℕ, ◌++◌, [], Consumes, IsAtEnd, IsSome, List, None, Option, Some, ap, append-nil, append_assoc, inl, inr, is_some, list_all, subst, sym, true}
 use Rattle.bt_lines.specs.calls.Device.{FailsAfter, ReadsOn, begun, gave}
-use Rattle.bt_lines.specs.calls.Reader.{AreRead, Hands, IsReadFailed, fault_kept as line_fault, held, input_of, lines_coming, lines_given, source_of}
+use Rattle.bt_lines.specs.calls.Reader.{AreRead, Hands, IsReadFailed, fault_kept as line_fault, input_of, lines_coming, source_of}
 use Rattle.bt_lines.specs.declared.fault.Input.{Input}
 use Rattle.bt_lines.specs.declared.fault.Input.TheVariants.{First}
 use Rattle.bt_lines.specs.declared.reader.line_reader.LineReader.{LineReader}
@@ -21,9 +21,9 @@ use Rattle.bt_front.specs.declared.survey.trouble.Trouble.{Trouble}
 use Rattle.bt_front.specs.declared.survey.trouble.Trouble.TheVariants.{ComesBack, Odd, Refused}
 use Rattle.bt_front.specs.declared.survey.watched.Watched.{Watched}
 use Rattle.bt_front.specs.inside.Seeing.{HasSeenAll, StopsSeeing}
-use Rattle.bt_front.specs.inside.Watched.{BeginsOdd, EndsBy, FailsWatched, IsWatchedRead, ServesWatched, Shows, ShowsBy, watched_source}
+use Rattle.bt_front.specs.inside.Watched.{BeginsOdd, EndsBy, IsWatchedRead, Shows, ShowsBy, watched_source}
 use Rattle.bt_front.specs.model.Odd.{IsOddLine, is_plain, raw_lines}
-use Rattle.bt_front.specs.model.Survey.{AreSeen, IsSurveyOf, read_of}
+use Rattle.bt_front.specs.model.Survey.{AreSeen, read_of}
 
 -- ---- what a reader of lines says of its reads
 
@@ -89,11 +89,6 @@ in_text text (Odd odd) is = inr is
 in_text text (Refused fault) is = is
 in_text text (ComesBack line) is = is
 
--- the lines of a text are all that come of it to a reader that has given none
-all_lines : {S : Type 0} (reader : LineReader S) → lines_given reader ≡ 0 → held reader ≡ [] → (text : List ℕ) → lines_coming text reader ≡ text_lines text
-unfolding lines_coming
-all_lines reader given none text = rw (given, none) refl
-
 module _ {S : Type 0} (device : Source S) where
   -- a reader of the records of a source that is watched
   pub record Watching (source : S) (blocks : Blocks (Watched S)) : Type 0 where
@@ -103,14 +98,14 @@ module _ {S : Type 0} (device : Source S) where
 
   -- one that was just made is
   pub watching : (source : S) (watched : Watched S) (reader : LineReader (Watched S)) (blocks : Blocks (Watched S)) → watched.source ≡ source → Shows [] watched
-      → source_of reader ≡ watched → input_of reader ≡ First → lines_given reader ≡ 0 → held reader ≡ []
+      → source_of reader ≡ watched → input_of reader ≡ First → ((text : List ℕ) → lines_coming text reader ≡ text_lines text)
       → below blocks ≡ reader → ((text : List ℕ) → coming text (view_of blocks) ≡ good block_format (input_of reader) (lines_coming text reader))
       → Watching source blocks
-  watching source watched reader blocks here shows above input given none holds comes =
+  watching source watched reader blocks here shows above input lines holds comes =
       let at : source_of (below blocks) ≡ watched = ap source_of holds ∙ above in record {
         source_is = ap (λ (w : Watched S). w.source) at ∙ here;
         shows = subst (λ (w : Watched S). Shows [] w) (sym at) shows;
-        good = λ text. comes text ∙ ap (λ (i : Input). good block_format i (lines_coming text reader)) input ∙ ap (good block_format First) (all_lines reader given none text);
+        good = λ text. comes text ∙ ap (λ (i : Input). good block_format i (lines_coming text reader)) input ∙ ap (good block_format First) (lines text);
       }
 
   module _ (source : S) (old new : Blocks (Watched S)) (watched : Watched S) (after : S) (so : Watching source old) (is : watched ≡ source_of (below new)) (ends : after ≡ watched.source) where

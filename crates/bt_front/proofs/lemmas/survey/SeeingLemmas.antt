@@ -1,24 +1,21 @@
 -- Lemmas on seeing all records of a reader.
-use Rattle.bt_lines.proofs.Std.{arith, common_steps, ◌≡◌, ◌∙◌, ◌⊎◌, ℕ, suc, ◌+◌, ◌<◌, ◌≤◌, ◌++◌, List, [], ◌∷◌, Err, IfSome, IfSome_then, None, Ok, Option, Result, Some, ap, append-nil, append_assoc, false, false≢true, inl, inr, length, map, map-append, option_map, refl, subst, sym, take, true, ⊤}
-use Rattle.bt_lines.specs.calls.Faults.{no_memory}
+use Rattle.bt_lines.proofs.Std.{arith, ◌≡◌, ◌∙◌, ℕ, suc, ◌+◌, ◌<◌, ◌++◌, List, [], ◌∷◌, Err, None, Ok, Result, Some, ap, append-nil, append_assoc, false, false≢true, inl, inr, length, map, map-append, refl, subst, sym, take, true}
 use Rattle.bt_lines.specs.calls.Names.{fault_value}
-use Rattle.bt_lines.specs.calls.Reader.{Hands, IsKept, MayStillCome, end_told, fault_kept as line_fault, lines_given}
+use Rattle.bt_lines.specs.calls.Reader.{Hands, IsKept, MayStillCome, lines_given}
 use Rattle.bt_lines.specs.declared.device.Source.{Ghosts as Source}
 use Rattle.bt_lines.specs.declared.fault.Fault.{Fault}
-use Rattle.bt_lines.specs.declared.fault.Kind.{Kind}
-use Rattle.bt_lines.specs.declared.fault.Kind.TheVariants.{NoMemory, ReadFailed}
-use Rattle.bt_lines.specs.model.Fault.{FaultValue, read_failed}
+use Rattle.bt_lines.specs.model.Fault.{FaultValue}
 use Rattle.bt_lines.proofs.lemmas.reader.block.ReadsLemmas.{comes_before, hands_both, hands_none}
 use Rattle.bt_bed.proofs.lemmas.read.good.SaidRuns.{taken_are, token_is}
 use Rattle.bt_bed.specs.calls.Batch.{IsWhere, Passes, cursor_in, left, line_in}
 use Rattle.bt_bed.specs.calls.Blocks.{FillsBlocks, IsTaken, Lends, TakesBlocks, below, buffered_in, count_in, fault_kept, view_of}
-use Rattle.bt_bed.specs.calls.Reading.{AnswersFault, BeginsComing, Cause, EndsMembers, GivesMember, LineIsWrong, LineUnread, MemberReader, RunsOut, Takes, ahead_in, coming, first_from, is_of_line, members_from, room, with_members}
+use Rattle.bt_bed.specs.calls.Reading.{BeginsComing, Cause, Takes, coming, first_from, is_of_line, members_from, room, with_members}
 use Rattle.bt_bed.specs.calls.SortedReader.{view_with}
 use Rattle.bt_bed.specs.declared.read.batch.Batch.{Batch}
 use Rattle.bt_bed.specs.declared.read.batch.Consumed.{Consumed}
 use Rattle.bt_bed.specs.declared.read.blocks.Blocks.{Blocks}
 use Rattle.bt_bed.specs.model.Feature.{Feature}
-use Rattle.bt_bed.specs.model.Good.{Good, Member, ends_with, items_in}
+use Rattle.bt_bed.specs.model.Good.{Good, Member}
 use Rattle.bt_front.specs.declared.survey.Survey.{Survey}
 use Rattle.bt_front.specs.declared.survey.trouble.Trouble.{Trouble}
 use Rattle.bt_front.specs.declared.survey.trouble.Trouble.TheVariants.{ComesBack, Odd, Refused}

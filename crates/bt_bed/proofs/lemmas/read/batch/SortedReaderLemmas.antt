@@ -1,5 +1,5 @@
 -- Lemmas on a reader of sorted records.
-use Rattle.bt_lines.proofs.Std.{IfNone, rules, ◌≡◌, ℕ, suc, ◌-◌, ◌<◌, ◌≤◌, Bool, true, false, List, [], ◌∷◌, ◌++◌, length, take, drop, Option, Some, None, Ok, refl, sym, ap, ◌∙◌, subst, arith, length-take, take-append-drop, if◌then◌else◌, is_some, IfSome, IsTrue, option_map, ForSome, Result, Err, inl, inr}
+use Rattle.bt_lines.proofs.Std.{IfNone, ◌≡◌, ℕ, suc, ◌-◌, ◌<◌, ◌≤◌, Bool, true, false, List, [], ◌∷◌, ◌++◌, length, take, drop, Option, Some, None, Ok, refl, sym, ap, ◌∙◌, subst, arith, length-take, take-append-drop, if◌then◌else◌, is_some, IfSome, IsTrue, option_map, ForSome, Result, Err, inl, inr}
 use Rattle.bt_lines.specs.declared.device.Source.{Ghosts as Source}
 use Rattle.bt_lines.proofs.lemmas.reader.lines.TakingLemmas.{next_bytes, next_number, prefix_of}
 use Rattle.bt_lines.specs.calls.Reader.{MayStillCome, TakesLines, buffered_in as lines_buffered, fault_kept as line_fault, input_of, lines_coming, lines_given, GivesEnd, GivesFault, IsKept, MakesLine}

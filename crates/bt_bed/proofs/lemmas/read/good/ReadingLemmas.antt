@@ -1,5 +1,5 @@
 -- Lemmas on lines that a reader of records takes one after another.
-use Rattle.bt_lines.proofs.Std.{◌≡◌, ℕ, suc, ◌+◌, ◌-◌, ◌^◌, ◌<◌, ◌≤◌, List, [], ◌∷◌, ◌++◌, length, take, drop, Option, Some, None, sym, ap, ◌∙◌, arith, false, false≢true, is_some, append_assoc, append-nil, length-append, take-append-add, drop-drop, true, Ok, Err, refl, inl, inr, ◌⊎◌, Result, add-zero}
+use Rattle.bt_lines.proofs.Std.{◌≡◌, ℕ, suc, ◌+◌, ◌-◌, ◌^◌, ◌<◌, ◌≤◌, List, [], ◌∷◌, ◌++◌, length, take, drop, Some, None, sym, ap, ◌∙◌, arith, false, false≢true, is_some, append_assoc, append-nil, length-append, take-append-add, drop-drop, true, Ok, Err, refl, inl, inr, ◌⊎◌, add-zero}
 use Rattle.bt_lines.specs.declared.device.Source.{Ghosts as Source}
 use Rattle.bt_lines.proofs.lemmas.reader.lines.LeftLemmas.{made_coming, none_came, none_comes}
 use Rattle.bt_lines.proofs.lemmas.reader.lines.TakingLemmas.{near_next, not_told, next_below, given_below, prefix_of}
@@ -16,7 +16,7 @@ use Rattle.bt_bed.specs.calls.Reading.{LinesPass, IsBeyond, MemberReader, SaidNo
 use Rattle.bt_lines.specs.declared.fault.Input.{Input}
 use Rattle.bt_lines.specs.declared.fault.Kind.{Kind}
 use Rattle.bt_bed.proofs.lemmas.read.good.SaidLemmas.{beyond_from}
-use Rattle.bt_bed.specs.model.Good.{with_member, Format, Good, Member, ends_with, good, good_after}
+use Rattle.bt_bed.specs.model.Good.{with_member, Format, Member, ends_with, good, good_after}
 use Rattle.bt_bed.specs.model.BedLine.{fault_at_line}
 use Rattle.bt_lines.proofs.lemmas.reader.block.ReadsLemmas.{comes_before, hands_both, hands_none}
 

@@ -7,7 +7,7 @@ use Rattle.bt_lines.specs.calls.Line.{line_feeds}
 use Rattle.bt_lines.specs.calls.Reader.{EndsKnown, GivesEnd, GivesLine, Hands, MakesLine, MayStillCome, TakesLines, buffered_bytes, buffered_in, bytes_left, end_told, held, left_at, lines_coming, lines_given, lines_left, source_of}
 use Rattle.bt_lines.specs.declared.reader.buffered_lines.ConsumedLines.{ConsumedLines}
 use Rattle.bt_lines.specs.declared.reader.line_reader.LineReader.{LineReader}
-use Rattle.bt_lines.specs.model.Lines.{TextLine, bytes_in, lines_from}
+use Rattle.bt_lines.specs.model.Lines.{TextLine, bytes_in, lines_from, text_lines}
 use Rattle.bt_lines.specs.calls.Output.{block_size}
 
 -- the first of the lines that are left, if they are known, was given
@@ -82,6 +82,16 @@ pub is_prefix : {S : Type 0} (left : S → Option (List ℕ)) (reader : LineRead
 unfolding bytes_left lines_coming
 is_prefix left reader =
     one_by (λ lines. take (length (buffered_in reader)) lines ≡ buffered_in reader) (suc (lines_given reader)) (held reader) (left (source_of reader)) (end_told reader) (prefix_of reader)
+
+-- all lines of a known text are left to a reader that has given none
+pub all_left : {S : Type 0} (left : S → Option (List ℕ)) (reader : LineReader S) → end_told reader ≡ false → ((rest : List ℕ) → lines_coming rest reader ≡ text_lines rest) → lines_left left reader ≡ option_map text_lines (left (source_of reader))
+unfolding bytes_left lines_coming
+all_left left reader untold all = left_by (end_told reader) (left (source_of reader)) untold
+  where
+    left_by : (told : Bool) (o : Option (List ℕ)) → told ≡ false → option_map (lines_from (suc (lines_given reader))) (left_at told (held reader) o) ≡ option_map text_lines o
+    left_by true o e = absurd (false≢true (sym e))
+    left_by false None e = refl
+    left_by false (Some text) e = ap Some (all text)
 
 module _ {S : Type 0} (device : Source S) (old new : LineReader S) where
   -- what is so of the lines that come is so of those that are left

@@ -1,5 +1,5 @@
 -- Lemmas on a step of the reader of lines.
-use Rattle.bt_lines.proofs.Std.{common_steps, rules, ◌≡◌, ℕ, suc, ◌+◌, ◌-◌, ◌^◌, ◌<◌, ◌≤◌, ◌⊎◌, inl, inr, true, false, cond, List, [], ◌∷◌, ◌++◌, length, Option, None, Some, Ok, Err, take, refl, sym, ap, ◌∙◌, subst, append_assoc, append-nil, length-append, arith, option_map, is_some, IfSome, take_all, false≢true, take-append-add, take-append_seam, Consumes, IsAtEnd, ends_with_byte, strip_last}
+use Rattle.bt_lines.proofs.Std.{common_steps, ◌≡◌, ℕ, suc, ◌+◌, ◌-◌, ◌^◌, ◌<◌, ◌≤◌, ◌⊎◌, inl, inr, true, false, cond, List, [], ◌∷◌, ◌++◌, length, None, Some, Ok, Err, take, refl, sym, ap, ◌∙◌, subst, append_assoc, append-nil, length-append, arith, is_some, take_all, false≢true, take-append-add, take-append_seam, Consumes, IsAtEnd, ends_with_byte, strip_last}
 use Rattle.bt_lines.specs.declared.device.Source.{Ghosts as Source}
 use Rattle.bt_lines.proofs.lemmas.reader.block.BufferLemmas.{unread_fits, one_line}
 use Rattle.bt_lines.proofs.lemmas.reader.lines.TextLemmas.{lines_from-fed, lines_from-last, lines_from-nil, spelled-fed, line_feeds-append, line_feeds-none, line_feeds-fed, bytes_behind_first}
@@ -14,7 +14,7 @@ use Rattle.bt_lines.specs.inside.Spill.{Buffers, closed}
 use Rattle.bt_lines.specs.calls.Output.{block_size}
 use Rattle.bt_lines.specs.calls.Line.{NoLineFeed, line_feeds}
 use Rattle.bt_lines.specs.calls.Names.{fault_value}
-use Rattle.bt_lines.specs.calls.Reader.{AreRead, EndsKnown, FillsLines, IsKept, IsSound, buffered_bytes, Hands, IsNear, FailsToRead, end_told, GivesLine, source_of, input_of, lines_given, bytes_taken, held, fault_kept, has_ended, bytes_left, feeds_taken, lines_coming, MayStillCome}
+use Rattle.bt_lines.specs.calls.Reader.{AreRead, EndsKnown, FillsLines, IsKept, IsSound, buffered_bytes, Hands, IsNear, FailsToRead, end_told, GivesLine, source_of, input_of, lines_given, bytes_taken, held, fault_kept, has_ended, feeds_taken, lines_coming, MayStillCome}
 use Rattle.bt_lines.specs.declared.fault.Fault.{Fault}
 use Rattle.bt_lines.specs.declared.fault.Input.{Input}
 use Rattle.bt_lines.specs.declared.reader.spill.Stop.{Stop}

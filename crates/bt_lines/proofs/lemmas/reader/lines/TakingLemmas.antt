@@ -1,11 +1,11 @@
 -- Lemmas on lines that are taken of those that are buffered.
-use Rattle.bt_lines.proofs.Std.{common_steps, ◌≡◌, ◌⊎◌, inl, inr, ℕ, suc, ◌+◌, ◌-◌, ◌^◌, ◌<◌, ◌≤◌, Bool, true, false, nat_eq, List, [], ◌∷◌, ◌++◌, length, take, drop, refl, sym, ap, ◌∙◌, Option, None, Some, append_assoc, length-append, arith, IfSome, option_map, drop_all, drop_at, take_all, take_at, length-take, take-append-drop, append-nil}
+use Rattle.bt_lines.proofs.Std.{common_steps, ◌≡◌, ◌⊎◌, inl, inr, ℕ, suc, ◌+◌, ◌-◌, ◌^◌, ◌<◌, ◌≤◌, Bool, true, false, nat_eq, List, [], ◌∷◌, ◌++◌, length, take, drop, refl, sym, ap, ◌∙◌, None, append_assoc, length-append, arith, drop_all, drop_at, take_all, take_at, length-take, take-append-drop, append-nil}
 use Rattle.bt_lines.specs.declared.device.Source.{Ghosts as Source}
 use Rattle.bt_lines.proofs.lemmas.reader.block.BufferLemmas.{fed_clear, fed_drop, fed_last, fed_none, unread_fits}
 use Rattle.bt_lines.proofs.lemmas.reader.block.ReadsLemmas.{hands_still}
 use Rattle.bt_lines.proofs.lemmas.reader.lines.BufferedLemmas.{are_fed, lines_fit}
 use Rattle.bt_lines.proofs.lemmas.reader.lines.TextLemmas.{lines_from-fed, lines_from-last, lines_from-nil, by_lines, bytes_in-drop, bytes_in-lines, lines_are_numbered, whole_lines_from-last, line_feeds-append, line_feeds-fed, whole_count, whole_front}
-use Rattle.bt_lines.specs.calls.Reader.{buffered_lines, Hands, IsKept, IsPrefix, MayStillCome, TakesLines, lines_coming, bytes_taken, buffered_in, fault_kept, feeds_taken, has_ended, input_of, buffered_bytes, bytes_left, is_open, end_told, held, left_at, lines_given, lines_left, source_of, IsSound}
+use Rattle.bt_lines.specs.calls.Reader.{buffered_lines, Hands, IsKept, IsPrefix, MayStillCome, TakesLines, lines_coming, bytes_taken, buffered_in, fault_kept, feeds_taken, has_ended, input_of, buffered_bytes, is_open, end_told, held, lines_given, source_of, IsSound}
 use Rattle.bt_lines.specs.calls.Line.{NoLineFeed, line_feeds}
 use Rattle.bt_lines.specs.model.Lines.{TextLine, bytes_in, last_line, lines_from, whole_lines_from}
 use Rattle.bt_lines.specs.calls.Output.{block_size}

@@ -1,5 +1,5 @@
 -- Lemmas on driving an engine, from the records that it takes to the report on what its input hands over.
-use Rattle.bt_lines.proofs.Std.{◌≡◌, ℕ, suc, ◌-◌, true, List, [], ◌++◌, take, Option, None, Some, Ok, refl, sym, ap, ◌∙◌, subst, append-nil, append_assoc, arith, inl, inr, ◌≢◌, ⊤, IfSome, map-append, Appends, Consumes, Bool, ◌∷◌, option_map, flat_map-append, Appends-nil, false≢true}
+use Rattle.bt_lines.proofs.Std.{false, ◌≡◌, ℕ, suc, ◌-◌, true, List, [], ◌++◌, take, Option, None, Some, Ok, refl, sym, ap, ◌∙◌, subst, append-nil, append_assoc, arith, inl, inr, ◌≢◌, ⊤, IfSome, map-append, Appends, Consumes, Bool, ◌∷◌, flat_map-append, Appends-nil, false≢true}
 use Rattle.bt_lines.specs.declared.device.Source.{Ghosts as Source}
 use Rattle.bt_lines.proofs.lemmas.reader.block.ReadsLemmas.{some_is}
 use Rattle.bt_lines.proofs.lemmas.Writer.{grows_both}
@@ -7,7 +7,7 @@ use Rattle.bt_lines.specs.model.Fault.{FaultValue, read_failed}
 use Rattle.bt_lines.specs.calls.Faults.{write_failed, no_memory}
 use Rattle.bt_lines.specs.model.Lines.{Handed, whole_text, text_lines, TextLine}
 use Rattle.bt_lines.specs.calls.Output.{Output, IsPrefixOf, HoldsBlock, FailsToAdd, Grown, SinkFailed}
-use Rattle.bt_lines.specs.calls.Reader.{Hands, source_of, input_of, lines_given, GivesEnd, GivesFault, GivesLine, IsKept, IsSound, bytes_taken, fault_kept, feeds_taken, lines_left}
+use Rattle.bt_lines.specs.calls.Reader.{Hands, source_of, input_of, lines_given, GivesEnd, GivesFault, GivesLine, IsKept, IsSound, bytes_taken, end_told, fault_kept, feeds_taken, lines_coming}
 use Rattle.bt_lines.specs.declared.fault.Input.TheVariants.{First}
 use Rattle.bt_lines.specs.declared.fault.Kind.{Kind}
 use Rattle.bt_bed.specs.model.Feature.{Feature, intervals_of, Interval}
@@ -352,12 +352,13 @@ pub record IsFreshReader {S : Type 0} (device : Source S) (first : S) (reader : 
   pub fed : feeds_taken reader ≡ 0
   pub given : lines_given reader ≡ 0
   pub going : fault_kept reader ≡ None
-  pub lines : lines_left device.left reader ≡ option_map text_lines (device.left first)
+  pub untold : end_told reader ≡ false
+  pub lines : (rest : List ℕ) → lines_coming rest reader ≡ text_lines rest
   pub sound : IsSound device reader
 
 module _ {S : Type 0} (split cigar : Bool) {device : Source S} {first : S} {reader : LineReader S} (fresh_reader : IsFreshReader device first reader) where
   starts_reader : BeginsAt device.left sam_format First first (sam_reader reader)
-  starts_reader = begins_over device (sam_reader reader) refl fresh_reader.taken fresh_reader.fed fresh_reader.source fresh_reader.input fresh_reader.going fresh_reader.lines (λ going. good_at_first device (sam_reader reader) going refl)
+  starts_reader = begins_over device (sam_reader reader) refl fresh_reader.taken fresh_reader.fed fresh_reader.source fresh_reader.input fresh_reader.going fresh_reader.untold fresh_reader.lines (λ going. good_at_first device (sam_reader reader) going refl)
 
   more_lines : (past more : List Alignment) → ⊤ → (rest : List ℕ) × (alignment_lines split cigar (past ++ more) ≡ alignment_lines split cigar past ++ rest)
   more_lines past more h = (alignment_lines split cigar more, flat_map-append (bed_lines split cigar) past more)

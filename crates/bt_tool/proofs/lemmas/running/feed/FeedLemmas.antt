@@ -6,7 +6,7 @@ use Rattle.bt_lines.specs.model.Fault.{FaultValue}
 use Rattle.bt_lines.specs.calls.Faults.{write_failed, no_memory}
 use Rattle.bt_lines.specs.model.Lines.{TextLine}
 use Rattle.bt_lines.specs.calls.Output.{Output, HoldsBlock, IsPrefixOf, Grows, block_size, Grown, WorksAsBefore, SinkFailed}
-use Rattle.bt_lines.specs.calls.Reader.{Hands, fault_kept as line_fault, lines_given}
+use Rattle.bt_lines.specs.calls.Reader.{Hands, lines_given}
 use Rattle.bt_lines.specs.declared.fault.Kind.{Kind}
 use Rattle.bt_lines.specs.declared.fault.Fault.{Fault}
 use Rattle.bt_lines.specs.calls.Names.{fault_value}

@@ -1,5 +1,5 @@
 -- Lemmas on the rounds of masking over two readers.
-use Rattle.bt_lines.proofs.Std.{◌≡◌, Bool, true, false, Option, None, Some, Result, Ok, Err, refl, sym, ◌∙◌, subst, ◌≤◌, ◌<◌, [], ap, arith, inl, inr, suc, IsErrAnd, ◌⊎◌, is_some, false≢true}
+use Rattle.bt_lines.proofs.Std.{◌≡◌, Bool, true, false, Option, None, Some, Result, Ok, Err, refl, ◌∙◌, subst, ◌≤◌, ◌<◌, [], ap, arith, inl, inr, suc, IsErrAnd, ◌⊎◌, is_some, false≢true}
 use Rattle.bt_lines.specs.declared.device.Source.{Ghosts as Source}
 use Rattle.bt_lines.specs.model.Fault.{FaultValue}
 use Rattle.bt_lines.specs.calls.Names.{fault_value}

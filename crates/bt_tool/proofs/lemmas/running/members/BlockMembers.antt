@@ -2,7 +2,7 @@
 use Rattle.bt_lines.proofs.Std.{◌≡◌, ℕ, Bool, true, false, List, [], take, None, Ok, Err, refl, ap, ◌∙◌, subst, option_map, IfSome_then, suc, ◌+◌, ◌-◌, ◌≤◌, ◌∷◌, ◌++◌, length, drop, Option, Some, sym, append_assoc, append-nil, length-append, arith, All, IfSome, drop-append_seam, All-append, inl}
 use Rattle.bt_lines.specs.declared.device.Source.{Ghosts as Source}
 use Rattle.bt_lines.proofs.lemmas.reader.lines.BufferedLemmas.{none_left}
-use Rattle.bt_lines.specs.calls.Reader.{buffered_bytes, buffered_in, fault_kept as line_fault, has_ended, is_open, lines_given, GivesEnd, GivesFault, IsKept, MakesLine, MayStillCome, TakenLines, TakesLines, bytes_left, held, input_of, lines_coming, lines_left, source_of}
+use Rattle.bt_lines.specs.calls.Reader.{buffered_bytes, buffered_in, fault_kept as line_fault, has_ended, is_open, lines_given, GivesEnd, GivesFault, IsKept, MakesLine, MayStillCome, TakenLines, TakesLines, held, input_of, lines_coming, lines_left, source_of}
 use Rattle.bt_lines.specs.calls.Names.{fault_value}
 use Rattle.bt_lines.specs.declared.fault.Fault.{Fault}
 use Rattle.bt_lines.specs.declared.reader.line_reader.LineReader.{LineReader}
@@ -10,7 +10,7 @@ use Rattle.bt_bed.proofs.lemmas.read.good.SaidRuns.{taken_are, LinesSay, good_sa
 use Rattle.bt_bed.specs.calls.Batch.{IsWhere, Passes as PassesBatch, cursor_in, left}
 use Rattle.bt_bed.specs.calls.SortedReader.{view_with}
 use Rattle.bt_bed.specs.declared.read.batch.Consumed.{Consumed}
-use Rattle.bt_bed.specs.calls.Blocks.{FillsBlocks, count_in, Lends, TakesBlocks, below, buffered_in as records_in, fault_kept, view_of}
+use Rattle.bt_bed.specs.calls.Blocks.{FillsBlocks, count_in, Lends, TakesBlocks, below, buffered_in as records_in, view_of}
 use Rattle.bt_bed.specs.model.Feature.{Feature}
 use Rattle.bt_bed.specs.model.BedLine.{fault_at_line}
 use Rattle.bt_bed.specs.calls.Reading.{BeginsComing, IsBeyond, AreSaid, MemberReader, Takes, coming, good_behind, good_coming, members_from, state_behind, with_members}
@@ -24,12 +24,12 @@ use Rattle.bt_lines.proofs.lemmas.reader.lines.LeftLemmas.{DropsLines, is_prefix
 use Rattle.bt_lines.proofs.lemmas.reader.lines.TakingLemmas.{sound_near, near_next, prefix_of}
 use Rattle.bt_lines.specs.model.Fault.{FaultValue}
 use Rattle.bt_lines.specs.model.Lines.{TextLine}
-use Rattle.bt_lines.specs.calls.Line.{AreNumbered, line_feeds}
+use Rattle.bt_lines.specs.calls.Line.{AreNumbered}
 use Rattle.bt_lines.specs.calls.Output.{block_size}
 use Rattle.bt_lines.specs.declared.reader.buffered_lines.ConsumedLines.{ConsumedLines}
 use Rattle.bt_lines.specs.declared.fault.Kind.{Kind}
 use Rattle.bt_lines.specs.declared.fault.Kind.TheVariants.{TextBeforeHeader}
-use Rattle.bt_bed.proofs.lemmas.read.good.KnownLemmas.{begins_known, left_numbered, near_both, taken_known}
+use Rattle.bt_bed.proofs.lemmas.read.good.KnownLemmas.{left_numbered, near_both, taken_known}
 use Rattle.bt_bed.proofs.lemmas.read.good.ReadingLemmas.{numbered_coming, some_bytes, Going, going_end, going_start, going_unread}
 use Rattle.bt_bed.specs.model.Good.{Good, Member, good_after}
 use Rattle.bt_seq.specs.calls.MaskStage.{SayEach}

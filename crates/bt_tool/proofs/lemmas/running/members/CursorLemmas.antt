@@ -3,7 +3,8 @@ use Rattle.bt_lines.proofs.Std.{common_steps, ◌≡◌, ℕ, zero, suc, ◌+◌
 use Rattle.bt_lines.proofs.lemmas.reader.block.BufferLemmas.{fed_clear, fed_drop, fed_last, fed_none, fed_push}
 use Rattle.bt_lines.proofs.lemmas.reader.lines.TextLemmas.{lines_from-fed, lines_from-last, lines_from-nil, spelled-fed, by_lines, lines_are_numbered, whole_lines_are_numbered, bytes_in-lines, line_feeds-append, line_feeds-fed, whole_count, whole_lines_from-fed, whole_lines_from-last, bytes_in-append, whole_front}
 use Rattle.bt_lines.proofs.lemmas.reader.lines.BufferedLemmas.{lines_taken}
-use Rattle.bt_lines.specs.calls.Reader.{BeginsLines, IsWhere, PassesLines, buffered_lines, lines_in, rest_in, TakenLines, buffered_bytes, is_open, lines_given, CutsOff, Hands, source_of, bytes_taken, feeds_taken, IsSound, fault_kept, input_of, lines_coming, lines_left}
+use Rattle.bt_lines.proofs.lemmas.reader.lines.LeftLemmas.{all_left}
+use Rattle.bt_lines.specs.calls.Reader.{BeginsLines, IsWhere, PassesLines, buffered_lines, lines_in, rest_in, TakenLines, buffered_bytes, is_open, lines_given, CutsOff, Hands, source_of, bytes_taken, feeds_taken, IsSound, end_told, fault_kept, input_of, lines_coming, lines_left}
 use Rattle.bt_lines.specs.model.Lines.{TextLine, bytes_in, fed_line, last_line, lines_from, spelled, whole_lines_from, Handed, whole_text, text_lines}
 use Rattle.bt_lines.specs.calls.Line.{AreNumbered, line_feeds}
 use Rattle.bt_lines.specs.inside.Shape.{IsLast, is_fed}
@@ -313,9 +314,10 @@ module _ {S A State : Type 0} (device : Source S) {reader : LineReader S} (membe
   fresh_over given going clear none sound = grind arith
 
   pub begins_over : {format : Format A State} {input : Input} {first : S} → source_of reader ≡ first → input_of reader ≡ input → fault_kept reader ≡ None
-      → lines_left device.left reader ≡ option_map text_lines (device.left first)
+      → end_told reader ≡ false → ((rest : List ℕ) → lines_coming rest reader ≡ text_lines rest)
       → (fault_kept reader ≡ None → (rest : List ℕ) → coming rest members ≡ good format (input_of reader) (lines_coming rest reader)) → BeginsAt device.left format input first members
-  begins_over {format} source same going lines known =
+  begins_over {format} source same going untold all known =
+      let lines = all_left device.left reader untold all in
       let there = start_known device members (good format (input_of reader)) (λ rest. known going rest ∙ ap (λ r. good format (input_of reader) (lines_coming rest r)) (sym is)) in
       grind arith
 

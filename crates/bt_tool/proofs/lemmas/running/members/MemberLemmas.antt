@@ -1,8 +1,8 @@
 -- What a reader that was filled has become.
-use Rattle.bt_lines.proofs.Std.{◌≡◌, None, IfSome_then, ℕ, suc, ◌+◌, ◌-◌, ◌≤◌, Bool, true, false, List, [], ◌∷◌, ◌++◌, length, take, drop, Option, Some, Err, refl, sym, ap, ◌∙◌, subst, append_assoc, append-nil, arith, inl, inr, ◌⊎◌, All, IfSome, IsSome, option_map, drop-drop, length-append, length-drop, map-append, take-append-drop, All-append, All-nil, Ok, All-push, rules}
+use Rattle.bt_lines.proofs.Std.{◌≡◌, None, IfSome_then, ℕ, suc, ◌+◌, ◌-◌, ◌≤◌, Bool, true, false, List, [], ◌∷◌, ◌++◌, length, take, drop, Option, Some, Err, refl, sym, ap, ◌∙◌, subst, append_assoc, append-nil, arith, inl, inr, ◌⊎◌, All, IfSome, IsSome, option_map, drop-drop, length-append, length-drop, map-append, take-append-drop, All-append, All-nil, Ok, All-push}
 use Rattle.bt_lines.specs.declared.device.Source.{Ghosts as Source}
 use Rattle.bt_lines.specs.model.Fault.{FaultValue, read_failed}
-use Rattle.bt_lines.specs.calls.Reader.{IsKept, fault_kept as line_fault, Hands, bytes_left, end_told, has_ended, held, left_at, source_of, input_of, lines_given, lines_left, GivesLine}
+use Rattle.bt_lines.specs.calls.Reader.{IsKept, Hands, bytes_left, end_told, has_ended, held, left_at, source_of, input_of, lines_given, lines_left, GivesLine}
 use Rattle.bt_bed.specs.model.Good.{Member, Format, Good, ends_with, good_after}
 use Rattle.bt_bed.specs.model.BedLine.{fault_at_line}
 use Rattle.bt_bed.specs.calls.Reading.{AnswersFault, EndsMembers, GivesMember, MemberReader, IsBeyond, AreSaid, Cause, ahead_in, first_from, good_coming, members_from, state_behind}

@@ -2,16 +2,15 @@
 use Rattle.bt_lines.proofs.Std.{◌≡◌, ℕ, suc, ◌+◌, ◌<◌, true, false, List, [], ◌∷◌, ◌++◌, length, take, Option, None, Some, Ok, Err, refl, sym, ap, ◌∙◌, subst, append_assoc, append-nil, arith, IfSome, IsTrue, option_map, ForSome, append_cancel_left, map-append, All-push}
 use Rattle.bt_lines.specs.declared.device.Source.{Ghosts as Source}
 use Rattle.bt_lines.specs.calls.Names.{fault_value}
-use Rattle.bt_lines.specs.calls.Reader.{fault_kept as line_fault, lines_given}
+use Rattle.bt_lines.specs.calls.Reader.{lines_given}
 use Rattle.bt_lines.specs.declared.fault.Fault.{Fault}
 use Rattle.bt_bed.specs.model.Feature.{Feature, interval_of, intervals_of, Interval, last_of}
-use Rattle.bt_bed.specs.calls.SortedReader.{view_with}
 use Rattle.bt_bed.specs.model.Good.{Good, Member, bed_format, locus_at}
 use Rattle.bt_bed.specs.model.Sorted.{Locus, locus_of, sorting_of}
 use Rattle.bt_bed.specs.calls.Orders.{IsUpTo, IsTotal}
 use Rattle.bt_bed.specs.model.Order.{Order}
 use Rattle.bt_bed.specs.calls.Reading.{AreSaid, BeginsComing, MemberReader, Takes, first_from, good_coming, members_from, with_members}
-use Rattle.bt_bed.specs.calls.Records.{FillsRecords, TakesRecords, below, buffered_in, fault_kept, view_of}
+use Rattle.bt_bed.specs.calls.Records.{FillsRecords, TakesRecords, below, buffered_in, view_of}
 use Rattle.bt_bed.specs.declared.order.ChromOrder.{Ghosts}
 use Rattle.bt_bed.specs.declared.read.records.Records.{Records}
 use Rattle.bt_bed.proofs.lemmas.read.batch.RecordsLemmas.{said_behind}

@@ -12,7 +12,6 @@ use Rattle.bt_lines.specs.model.Lines.{bytes_in, TextLine}
 use Rattle.bt_lines.specs.calls.Output.{Output, HoldsBlock, block_size, Grown}
 use Rattle.bt_tool.proofs.lemmas.running.members.MemberLemmas.{IsFilled, IsOver, ended_after_all, items_from, passes_all, passes_end, passes_fill, passes_take, read_before, read_here, IsStopped, fails_before_end, passes_stop}
 use Rattle.bt_tool.proofs.lemmas.running.feed.FeedLemmas.{put_more}
-use Rattle.bt_lines.specs.declared.reader.line_reader.LineReader.{LineReader}
 use Rattle.bt_lines.specs.declared.fault.Kind.{Kind}
 use Rattle.bt_lines.proofs.lemmas.reader.block.ReadsLemmas.{hands_none, hands_both}
 use Rattle.bt_tool.specs.inside.SweepLoop.{ChecksUpTo}

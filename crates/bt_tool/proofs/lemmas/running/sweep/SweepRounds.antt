@@ -1,5 +1,5 @@
 -- Lemmas on the rounds of a sweep over two readers: how far each comes, what it reads, and how much is still wanted.
-use Rattle.bt_lines.proofs.Std.{◌≡◌, ℕ, zero, suc, ◌+◌, ◌*◌, ◌≤◌, ◌<◌, Bool, true, false, List, length, length-append, Option, None, Some, Ok, Err, refl, sym, ap, ◌∙◌, subst, arith, inl, inr, option_to_list, [], ◌⊎◌, IsErrAnd, Result, is_some}
+use Rattle.bt_lines.proofs.Std.{◌≡◌, ℕ, zero, suc, ◌+◌, ◌*◌, ◌≤◌, ◌<◌, Bool, true, false, length, length-append, Option, None, Some, Ok, Err, refl, sym, ap, ◌∙◌, subst, arith, inl, inr, option_to_list, [], ◌⊎◌, IsErrAnd, Result, is_some}
 use Rattle.bt_lines.specs.calls.Output.{HoldsBlock, Output}
 use Rattle.bt_sweep.specs.calls.Sweeping.{IsInOrder, MovesTo, StandsAt, AdvancesOn, AdvancesSo, HasWritten, StopsFor, EndsB, Sweeping, phase_is_over as is_done, want_in, want_of}
 use Rattle.bt_bed.specs.calls.Stage.{at_start, Stage, with_first_ended}

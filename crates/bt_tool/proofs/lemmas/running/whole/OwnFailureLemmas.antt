@@ -1,5 +1,5 @@
 -- Lemmas on failed reads that are reported: each is of a read that failed in the run, whatever its source did before.
-use Rattle.bt_lines.proofs.Std.{rules, refl, suc, ◌≡◌, ℕ, Option, None, Some, Err, List, [], ap, sym, subst, ◌∙◌, inl, inr, arith, ◌≢◌, ◌⊎◌, ◌≤◌, MatchResult, Ok, Result, false≢true, option_map, ◌-◌, ◌^◌, ◌++◌, take, IfSome}
+use Rattle.bt_lines.proofs.Std.{false, refl, suc, ◌≡◌, ℕ, Option, None, Some, Err, List, [], ap, sym, subst, ◌∙◌, inl, inr, arith, ◌≢◌, ◌⊎◌, ◌≤◌, MatchResult, Ok, Result, false≢true, option_map, ◌-◌, ◌^◌, ◌++◌, take, IfSome}
 use Rattle.bt_lines.specs.declared.device.Source.{Ghosts as Source}
 use Rattle.bt_lines.proofs.lemmas.reader.block.ReadsLemmas.{all_served, memory_no_read, one_failed, some_is}
 use Rattle.bt_lines.specs.model.Fault.{FaultValue, read_failed}
@@ -7,7 +7,7 @@ use Rattle.bt_lines.specs.calls.Faults.{no_memory, write_failed}
 use Rattle.bt_lines.specs.calls.Device.{FailsAfter, ReadsOn, begun}
 use Rattle.bt_lines.specs.calls.Names.{fault_value}
 use Rattle.bt_lines.specs.calls.Output.{Output}
-use Rattle.bt_lines.specs.calls.Reader.{IsReadFailed, bytes_taken, fault_kept as line_fault, source_of, Hands, IsSound, input_of, fault_kept, feeds_taken, lines_coming, lines_given, lines_left}
+use Rattle.bt_lines.specs.calls.Reader.{IsReadFailed, bytes_taken, fault_kept as line_fault, source_of, Hands, IsSound, end_told, input_of, fault_kept, feeds_taken, lines_coming, lines_given, lines_left}
 use Rattle.bt_lines.specs.declared.fault.Fault.{Fault}
 use Rattle.bt_lines.specs.declared.fault.Input.{Input}
 use Rattle.bt_lines.specs.declared.fault.Input.TheVariants.{First, Second, Genome as FromGenome}
@@ -33,6 +33,7 @@ use Rattle.bt_tool.specs.inside.Pair.{InputsEnd, JoinDef, Pair, PairEnds, Why}
 use Rattle.bt_tool.specs.model.Written.{IsOneOf, IsSweptKind}
 use Rattle.bt_tool.specs.declared.planning.plan_type.Command.{Command}
 use Rattle.bt_tool.proofs.lemmas.running.members.CursorLemmas.{BeginsAt, some_of, cut_text, handed_all, handed_part}
+use Rattle.bt_lines.proofs.lemmas.reader.lines.LeftLemmas.{all_left}
 use Rattle.bt_lines.proofs.lemmas.reader.lines.TextLemmas.{whole_count, whole_front}
 
 pub bed_no_read : (order : Order) → IsBedKind order ReadFailed → ⊥
@@ -241,9 +242,9 @@ module _ {A B : Type 0} (source_a : Source A) (source_b : Source B) (command : C
 -- Lemmas on the genome file of a run, if it has one.
 
 module _ {G : Type 0} {device : Source G} {genome after : G} {old : LineReader G} (new : LineReader G) (source : source_of old ≡ genome) (ended : source_of new ≡ after) (input : input_of old ≡ FromGenome)
-    (fresh : bytes_taken old ≡ 0) (unfed : feeds_taken old ≡ 0) (none_given : lines_given old ≡ 0) (clear : fault_kept old ≡ None) (lines : lines_left device.left old ≡ option_map text_lines (device.left genome)) (sound : IsSound device old) where
+    (fresh : bytes_taken old ≡ 0) (unfed : feeds_taken old ≡ 0) (none_given : lines_given old ≡ 0) (clear : fault_kept old ≡ None) (untold : end_told old ≡ false) (all : (rest : List ℕ) → lines_coming rest old ≡ text_lines rest) (sound : IsSound device old) where
   at_genome : (text : List ℕ) (P : List TextLine → Type 0) → device.left genome ≡ Some text → IfSome (lines_left device.left old) P → P (text_lines text)
-  at_genome text P e h = some_of (lines_left device.left old) (text_lines text) P (lines ∙ ap (option_map text_lines) e) h
+  at_genome text P e h = some_of (lines_left device.left old) (text_lines text) P (all_left device.left old untold all ∙ ap (option_map text_lines) (ap device.left source ∙ e)) h
 
   -- the whole text is of the lines that were known
   of_whole : (result : Result (List Entry) FaultValue) → IfSome (lines_left device.left old) (λ lines. genome_of (input_of old) lines ≡ result) → (text : List ℕ) → device.left genome ≡ Some text → chromosomes_of (Some (whole_text text)) ≡ of_file result

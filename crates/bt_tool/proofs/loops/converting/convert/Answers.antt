@@ -16,6 +16,7 @@ returns-in-Ok g c =
       fed = reader.none_fed;
       given = reader.none_given;
       going = reader.going.0;
+      untold = reader.going.2;
       lines = reader.lines;
       sound = reader.sound;
     } in
@@ -38,6 +39,7 @@ returns-in-Err g c =
       fed = reader.none_fed;
       given = reader.none_given;
       going = reader.going.0;
+      untold = reader.going.2;
       lines = reader.lines;
       sound = reader.sound;
     } in

@@ -31,7 +31,7 @@ returns-in-Err g c =
     let records = c.new-records.ensures in
     let order = g.O.ChromOrder.order c.args.order.now in
     let written : Written Feature = record { whole = g.E.Engine.definition.output c.args.engine; settled = g.E.Engine.definition.settled c.args.engine } in
-    let starts = begins_over g.A.Source (view_of c.new-records.result) records.below reader.none_taken.0 reader.none_fed reader.source reader.input reader.going.0 reader.lines records.good in
+    let starts = begins_over g.A.Source (view_of c.new-records.result) records.below reader.none_taken.0 reader.none_fed reader.source reader.input reader.going.0 reader.going.2 reader.lines records.good in
     let sorted = records_sorted (g.E.Engine.definition.takes c.args.engine) order (g.met.O.ChromOrder.total c.args.order.now) c.requires.takes in
     let ended = sym (c.into_source-first.ensures ∙ ap source_of c.into_reader.ensures) in
     let driven : IsDriven written (g.E.Engine.definition.takes c.args.engine) g.A.Source (bed_format (sorting_of order)) (view_of c.new-records.result) c.args.first (view_of c.feed_all-fed.new.records) c.into_source-first.result =
@@ -49,7 +49,7 @@ returns-in-Err-finish g c =
     let records = c.new-records.ensures in
     let order = g.O.ChromOrder.order c.args.order.now in
     let written : Written Feature = record { whole = g.E.Engine.definition.output c.args.engine; settled = g.E.Engine.definition.settled c.args.engine } in
-    let starts = begins_over g.A.Source (view_of c.new-records.result) records.below reader.none_taken.0 reader.none_fed reader.source reader.input reader.going.0 reader.lines records.good in
+    let starts = begins_over g.A.Source (view_of c.new-records.result) records.below reader.none_taken.0 reader.none_fed reader.source reader.input reader.going.0 reader.going.2 reader.lines records.good in
     let sorted = records_sorted (g.E.Engine.definition.takes c.args.engine) order (g.met.O.ChromOrder.total c.args.order.now) c.requires.takes in
     let ended = sym (c.into_source-first.ensures ∙ ap source_of c.into_reader.ensures) in
     let driven : IsDriven written (g.E.Engine.definition.takes c.args.engine) g.A.Source (bed_format (sorting_of order)) (view_of c.new-records.result) c.args.first (view_of c.feed_all-fed.new.records) c.into_source-first.result =
@@ -71,7 +71,7 @@ returns g c =
     let records = c.new-records.ensures in
     let order = g.O.ChromOrder.order c.args.order.now in
     let written : Written Feature = record { whole = g.E.Engine.definition.output c.args.engine; settled = g.E.Engine.definition.settled c.args.engine } in
-    let starts = begins_over g.A.Source (view_of c.new-records.result) records.below reader.none_taken.0 reader.none_fed reader.source reader.input reader.going.0 reader.lines records.good in
+    let starts = begins_over g.A.Source (view_of c.new-records.result) records.below reader.none_taken.0 reader.none_fed reader.source reader.input reader.going.0 reader.going.2 reader.lines records.good in
     let sorted = records_sorted (g.E.Engine.definition.takes c.args.engine) order (g.met.O.ChromOrder.total c.args.order.now) c.requires.takes in
     let ended = sym (c.into_source-first.ensures ∙ ap source_of c.into_reader.ensures) in
     let driven : IsDriven written (g.E.Engine.definition.takes c.args.engine) g.A.Source (bed_format (sorting_of order)) (view_of c.new-records.result) c.args.first (view_of c.feed_all-fed.new.records) c.into_source-first.result =

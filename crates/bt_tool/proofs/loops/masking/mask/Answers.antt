@@ -33,8 +33,8 @@ returns g c =
     let ends = as_asked g.A.Source g.B.Source
     stands.how_is stands.full_is c.run_two-fault.ensures in
     let lines = line_members c.args.full nothing_reached c.new-lines.result in
-    let begins = begins_over g.A.Source lines refl reader.none_taken.0 reader.none_fed reader.source reader.input reader.going.0 reader.lines (λ going. good_at_first g.A.Source lines going refl) in
-    let begins_second = begins_over g.B.Source (view_of c.new-records.result) records.below reader_2.none_taken.0 reader_2.none_fed reader_2.source reader_2.input reader_2.going.0 reader_2.lines records.good in
+    let begins = begins_over g.A.Source lines refl reader.none_taken.0 reader.none_fed reader.source reader.input reader.going.0 reader.going.2 reader.lines (λ going. good_at_first g.A.Source lines going refl) in
+    let begins_second = begins_over g.B.Source (view_of c.new-records.result) records.below reader_2.none_taken.0 reader_2.none_fed reader_2.source reader_2.input reader_2.going.0 reader_2.going.2 reader_2.lines records.good in
     let ended = ap source_of ends.1 ∙ sym c.into_source-first.ensures in
     let ended_second = sym (c.into_source-second.ensures ∙ ap source_of c.into_reader.ensures) in
     record {

@@ -48,8 +48,8 @@ returns g c =
     let order = g.O.ChromOrder.order c.args.order.now in
     let sweep = c.new-sweep.ensures in
     let ends = rw (records.order, sweep.shape, sweep.rule, sweep.limit) at c.run_two-fault.ensures.finishes in
-    let begins = begins_over g.A.Source (view_of c.new-firsts.result) records.below reader.none_taken.0 reader.none_fed reader.source reader.input reader.going.0 reader.lines records.good in
-    let begins_second = begins_over g.B.Source (view_of c.new-seconds.result) records_2.below reader_2.none_taken.0 reader_2.none_fed reader_2.source reader_2.input reader_2.going.0 reader_2.lines records_2.good in
+    let begins = begins_over g.A.Source (view_of c.new-firsts.result) records.below reader.none_taken.0 reader.none_fed reader.source reader.input reader.going.0 reader.going.2 reader.lines records.good in
+    let begins_second = begins_over g.B.Source (view_of c.new-seconds.result) records_2.below reader_2.none_taken.0 reader_2.none_fed reader_2.source reader_2.input reader_2.going.0 reader_2.going.2 reader_2.lines records_2.good in
     let ended = sym (c.into_source-first.ensures ∙ ap source_of c.into_reader.ensures) in
     let ended_second = sym (c.into_source-second.ensures ∙ ap source_of c.into_reader-2.ensures) in
     record {

@@ -1,4 +1,4 @@
-use Rattle.bt_lines.proofs.Std.{◌≡◌, ap, refl, rules}
+use Rattle.bt_lines.proofs.Std.{◌≡◌, ap, rules}
 use Rattle.bt_lines.specs.calls.Line.{line_seen}
 use Rattle.bt_lines.specs.calls.Names.{fault_value}
 use Rattle.bt_lines.specs.declared.fault.Place.{Place}

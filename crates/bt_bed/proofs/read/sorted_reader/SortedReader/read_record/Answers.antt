@@ -1,4 +1,4 @@
-use Rattle.bt_lines.proofs.Std.{◌≡◌, refl, sym, ap, ◌∙◌, Bool, None, Some}
+use Rattle.bt_lines.proofs.Std.{◌≡◌, refl, sym, ap, ◌∙◌, None, Some}
 use Rattle.bt_lines.specs.calls.Names.{fault_value}
 use Rattle.bt_bed.proofs.lemmas.read.batch.SortedReaderLemmas.{sorted_end, sorted_start, sorted_unread, taken_fault, taken_nothing, taken_record, taken_unkept, view_before}
 use Rattle.bt_bed.specs.calls.SortedReader.{buffered_in}
