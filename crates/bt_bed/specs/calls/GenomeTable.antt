@@ -67,7 +67,7 @@ module _ {S : Type 0} where
   -- a line is at fault: the last one given
   pub record EntryIsWrong (device : Source S) (old : LineReader S) (bytes : List ℕ) (new : LineReader S)
       (fault : FaultValue) : Type 0 where
-    -- whatever follows, that is the fault
+    -- whatever follows, this is the file's fault
     pub is : (rest : List ℕ) → MayStillCome new rest → genome_of (input_of old) (lines_coming (bytes ++ rest) old) ≡ Err fault
     -- it is what is wrong with some text after some names
     pub kind : Kind
@@ -83,8 +83,9 @@ module _ {S : Type 0} where
   pub record EntryUnread (device : Source S) (old : LineReader S) (bytes : List ℕ) (new : LineReader S)
       (fault : FaultValue) : Type 0 where
     pub fails : ReadingFails device old new fault
-    pub passed : (rest : List ℕ) → MayStillCome new rest → (entries : List Entry)
-        × (genome_of (input_of old) (take (lines_given new - lines_given old) (lines_coming (bytes ++ rest) old)) ≡ Ok entries)
+    pub given : List Entry
+    pub passed : (rest : List ℕ) → MayStillCome new rest
+        → genome_of (input_of old) (take (lines_given new - lines_given old) (lines_coming (bytes ++ rest) old)) ≡ Ok given
 
   -- why the reading stopped, once these bytes were handed over
   abbrev pub StopCause : Source S → LineReader S → List ℕ → LineReader S → FaultValue → Type 0

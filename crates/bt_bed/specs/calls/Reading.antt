@@ -202,7 +202,7 @@ module _ {S A State : Type 0} where
   -- a line is at fault: the last one given
   pub record LineIsWrong (device : Source S) (old : MemberReader S A State) (bytes : List ℕ)
       (fault : FaultValue) (new : MemberReader S A State) : Type 0 where
-    -- whatever follows, that is all that comes
+    -- whatever follows, only this fault comes
     pub none_left : (rest : List ℕ) → MayStillCome new.below rest → coming (bytes ++ rest) old ≡ ends_with (Some fault)
     -- it is what is wrong with a line after the last member
     pub kind : Kind
@@ -227,10 +227,11 @@ module _ {S A State : Type 0} where
     pub fails : ReadingFails device old.below new.below fault
     pub passed : SaidNothing old bytes new
 
-  -- the last line given has the first member of what comes, whatever follows, and the member couldn't be kept
+  -- the last line given has the first member that comes, whatever follows, and it couldn't be kept
   pub record LastUnkept (old : MemberReader S A State) (bytes : List ℕ)
       (new : MemberReader S A State) : Type 0 where
-    pub first : (rest : List ℕ) → MayStillCome new.below rest → (item : A) × (more : List (Member A))
+    pub item : A
+    pub first : (rest : List ℕ) → MayStillCome new.below rest → (more : List (Member A))
         × ((coming (bytes ++ rest) old).members ≡ record { line = lines_given new.below; item = item } ∷ more)
     pub rises : lines_given old.below < lines_given new.below
     pub going : line_fault new.below ≡ None
@@ -264,9 +265,9 @@ module _ {S A State : Type 0} where
     -- a fault is returned again, and nothing is read
     pub again : (before : FaultValue) → old.fault ≡ Some before → (fault ≡ before) × (new ≡ old)
     pub first : old.fault ≡ None → Cause device old stays.bytes.0 fault new
-    pub below_went : old.fault ≡ None → line_fault old.below ≡ None
-    -- if the line read last could be read, the lines that come are those after the ones given
+    pub below_was_going : old.fault ≡ None → line_fault old.below ≡ None
     pub rises : lines_given old.below ≤ lines_given new.below
+    -- if the line read last could be read, the lines that come are those after the ones given
     pub lines : line_fault new.below ≡ None → LinesPass old.below stays.bytes.0 new.below
     -- what follows the lines given and one line more is still to come, except at most a block
     pub near : old.fault ≡ None → IsNear old.below stays.bytes.0 new.below

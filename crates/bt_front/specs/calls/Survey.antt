@@ -1,5 +1,5 @@
 -- What leaves a text to bedtools, and what surveying a source does.
-use Rattle.std.specs.Prelude.{ℕ, ◌≡◌, ◌⊎◌, true, false, List, [], ◌∷◌, ◌++◌, map, Some, Result, Ok, Err}
+use Rattle.std.specs.Prelude.{ℕ, Bool, ◌≡◌, ◌⊎◌, true, false, List, [], ◌∷◌, ◌++◌, map, Some, Result, Ok, Err}
 use Rattle.std.specs.List.{list_all}
 use Rattle.bt_lines.specs.declared.device.Source.{Ghosts as Source}
 use Rattle.bt_lines.specs.calls.Device.{FailsAfter, ReadsOn}
@@ -73,10 +73,14 @@ module _ {S : Type 0} (device : Source S) (before after : S) where
     -- the bytes that the reads of the call handed over: all of them served, or the last one failed
     pub bytes : List ℕ
     pub handed : ReadsOn device.is_read before bytes after ⊎ FailsAfter device.is_read before bytes after
-    -- whatever follows them, if anything does, the text has this trouble
-    pub is : (rest : List ℕ) → (device.end_told after ≡ true → rest ≡ []) → IsTroubleOf (bytes ++ rest) trouble
+    -- whether the end was reported to the call
+    pub ended : Bool
+    pub told : ended ≡ true → device.end_told after ≡ true
+    -- whatever may still follow them, the text has this trouble
+    pub is : (rest : List ℕ) → (ended ≡ true → rest ≡ []) → IsTroubleOf (bytes ++ rest) trouble
     -- and if it is known what was left, they come first in it
-    pub known : (text : List ℕ) → device.left before ≡ Some text → (rest : List ℕ) × (text ≡ bytes ++ rest)
+    pub known : (text : List ℕ) → device.left before ≡ Some text
+        → (rest : List ℕ) × (text ≡ bytes ++ rest) × (ended ≡ true → rest ≡ [])
 
   -- what a call tells
   abbrev pub ReadsSurvey : Result Survey Trouble → Type 0

@@ -385,7 +385,8 @@ module _ {S : Type 0} (device : Source S) (old : LineReader S) where
         before_end = not_told (end_told old) (end_told now) g.passed.bytes.1.told_stays (gives.before_end going);
         cut = λ kept. cut_fault device old now new g.passed fault gives going fails.is;
       };
-      passed = λ rest follows. (entries genome, rw gives.counted (given_entries (input_of old) _ _ (lines_given old) (lines_given now) (entries genome) (continues_then now new genome g gives.bytes.1 rest follows)));
+      given = entries genome;
+      passed = λ rest follows. rw gives.counted (given_entries (input_of old) _ _ (lines_given old) (lines_given now) (entries genome) (continues_then now new genome g gives.bytes.1 rest follows));
     }))
     stops_by going (inr is) = inr (inr (record { is = is; served = gives.served is ∙ g.served; no_read = memory_failed (fault_kept new) (gives.kept ∙ ap Some is) }))
 

@@ -1,7 +1,7 @@
 -- Lemmas on surveying a source.
-use Rattle.bt_lines.proofs.Std.{◌≡◌, ◌∙◌, ◌⊎◌, ℕ, ◌++◌, [], Consumes, IsAtEnd, IsSome, List, None, Option, Some, ap, append-nil, append_assoc, inl, inr, is_some, list_all, subst, sym, true}
+use Rattle.bt_lines.proofs.Std.{Bool, refl, ◌≡◌, ◌∙◌, ◌⊎◌, ℕ, ◌++◌, [], Consumes, IsAtEnd, IsSome, List, None, Option, Some, ap, append-nil, append_assoc, inl, inr, is_some, list_all, subst, sym, true}
 use Rattle.bt_lines.specs.calls.Device.{FailsAfter, ReadsOn, begun, gave}
-use Rattle.bt_lines.specs.calls.Reader.{AreRead, Hands, IsReadFailed, fault_kept as line_fault, input_of, lines_coming, source_of}
+use Rattle.bt_lines.specs.calls.Reader.{AreRead, Hands, IsReadFailed, end_told, fault_kept as line_fault, input_of, lines_coming, source_of}
 use Rattle.bt_lines.specs.declared.fault.Input.{Input}
 use Rattle.bt_lines.specs.declared.fault.Input.TheVariants.{First}
 use Rattle.bt_lines.specs.declared.reader.line_reader.LineReader.{LineReader}
@@ -72,9 +72,9 @@ module _ {S : Type 0} (IsRead : S → Option (List ℕ) → S → Type 0) where
 -- ---- known bytes
 
 -- those that are left come after those handed over
-rest_known : (text : List ℕ) (new : Option (List ℕ)) (bytes : List ℕ) → Consumes (Some text) new bytes → (rest : List ℕ) × (text ≡ bytes ++ rest)
-rest_known text None bytes consumes = absurd consumes
-rest_known text (Some rest) bytes consumes = (rest, consumes)
+rest_known : (text : List ℕ) (new : Option (List ℕ)) (bytes : List ℕ) (ended : Bool) → Consumes (Some text) new bytes → (ended ≡ true → IsAtEnd new) → (rest : List ℕ) × (text ≡ bytes ++ rest) × (ended ≡ true → rest ≡ [])
+rest_known text None bytes ended consumes none = absurd consumes
+rest_known text (Some rest) bytes ended consumes none = (rest, consumes, none)
 
 -- at the end none are
 all_known : (text : List ℕ) (new : Option (List ℕ)) (bytes : List ℕ) → Consumes (Some text) new bytes → IsAtEnd new → text ≡ bytes
@@ -161,8 +161,10 @@ module _ {S : Type 0} (device : Source S) where
         let line : IsOddLine bytes odd = finds bytes (shown bytes sees.bytes.1) in record {
           bytes = bytes;
           handed = handed bytes sees.bytes.1;
-          is = λ rest follows. inl (subst (λ (l : List ℕ). IsOddLine l odd) (sym (ap (λ l. bytes ++ l) (follows (rw same end.0)) ∙ append-nil bytes)) line);
-          known = λ text known. (let whole : text ≡ bytes = all_known text _ bytes (known_from bytes sees.bytes.1 text known) end.1 in ([], whole ∙ sym (append-nil bytes)));
+          ended = true;
+          told = λ e. rw same end.0;
+          is = λ rest follows. inl (subst (λ (l : List ℕ). IsOddLine l odd) (sym (ap (λ l. bytes ++ l) (follows refl) ∙ append-nil bytes)) line);
+          known = λ text known. (let whole : text ≡ bytes = all_known text _ bytes (known_from bytes sees.bytes.1 text known) end.1 in ([], whole ∙ sym (append-nil bytes), λ e. refl));
         }
 
     -- an odd line passed
@@ -172,8 +174,10 @@ module _ {S : Type 0} (device : Source S) where
         let begins : BeginsOdd bytes odd = subst (λ (o : Option OddLine). ShowsBy bytes watched.watch watched.feeds o) found (shown bytes stops.bytes.1).by in record {
           bytes = bytes;
           handed = handed bytes stops.bytes.1;
+          ended = end_told (below new);
+          told = λ e. rw same (stops.kept.end e).0;
           is = λ rest follows. inl (begins.first rest);
-          known = λ text known. rest_known text _ bytes (known_from bytes stops.bytes.1 text known);
+          known = λ text known. rest_known text _ bytes (end_told (below new)) (known_from bytes stops.bytes.1 text known) (λ e. (stops.kept.end e).1);
         }
 
     -- or the records leave the text to bedtools
@@ -182,7 +186,9 @@ module _ {S : Type 0} (device : Source S) where
         let bytes = stops.bytes.0 in record {
           bytes = bytes;
           handed = handed bytes stops.bytes.1;
+          ended = end_told (below new);
+          told = λ e. rw same (stops.kept.end e).0;
           is = λ rest follows. in_text (bytes ++ rest) trouble
-              (subst (λ (g : Good Feature). IsTroubleIn g trouble) (so.good (bytes ++ rest)) (stops.trouble_is rest (λ told. follows (rw same (stops.kept.end told).0))));
-          known = λ text known. rest_known text _ bytes (known_from bytes stops.bytes.1 text known);
+              (subst (λ (g : Good Feature). IsTroubleIn g trouble) (so.good (bytes ++ rest)) (stops.trouble_is rest follows));
+          known = λ text known. rest_known text _ bytes (end_told (below new)) (known_from bytes stops.bytes.1 text known) (λ e. (stops.kept.end e).1);
         }

@@ -458,7 +458,7 @@ fails_again device reader fault is none = record {
   state = refl;
   again = λ before e. let same : Some fault ≡ Some before = sym is ∙ e in (cc, refl);
   first = λ going. let other : ◌≡◌ {A = Option FaultValue} (Some fault) None = sym is ∙ going in cc;
-  below_went = λ going. let other : ◌≡◌ {A = Option FaultValue} (Some fault) None = sym is ∙ going in cc;
+  below_was_going = λ going. let other : ◌≡◌ {A = Option FaultValue} (Some fault) None = sym is ∙ going in cc;
   rises = omega arith;
   lines = λ none. none_pass reader.below reader.below [] (λ rest. refl) refl;
   near = λ going. let other : ◌≡◌ {A = Option FaultValue} (Some fault) None = sym is ∙ going in cc;

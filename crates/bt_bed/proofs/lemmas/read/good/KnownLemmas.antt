@@ -135,7 +135,9 @@ module _ {S A State : Type 0} (device : Source S) (old new : MemberReader S A St
     nothing_known passed = before_known device old new hands (IsBeyond (lines_given new.below)) passed
 
     pub unkept_known : LastUnkept old bytes new → IfSome (good_coming device.left old) (λ good. (item : A) × (rest : List (Member A)) × (good.members ≡ record { line = lines_given new.below; item = item } ∷ rest))
-    unkept_known unkept = before_known device old new hands (λ good. (item : A) × (rest : List (Member A)) × (good.members ≡ record { line = lines_given new.below; item = item } ∷ rest)) unkept.first
+    unkept_known unkept =
+        before_known device old new hands (λ good. (item : A) × (rest : List (Member A)) × (good.members ≡ record { line = lines_given new.below; item = item } ∷ rest))
+        (λ rest follows. (let there = unkept.first rest follows in (unkept.item, there.0, there.1)))
 
 module _ {S A State : Type 0} (device : Source S) (reader : MemberReader S A State) where
   -- the members that are buffered come first

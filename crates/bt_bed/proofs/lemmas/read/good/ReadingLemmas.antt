@@ -400,7 +400,8 @@ module _ {S A State : Type 0} (device : Source S) where
       unkept_cause item says is = record {
         is = is;
         checked = inr (record {
-          first = λ rest follows. (let there = given_first now new line g gives item says rest follows in (item, there.0, there.1));
+          item = item;
+          first = given_first now new line g gives item says;
           rises = omega (arith, gives.counted, g.passed.least);
           going = gives.goes;
           near = gives.near;
@@ -419,7 +420,7 @@ module _ {S A State : Type 0} (device : Source S) where
             state = follows.state ∙ g.state;
             again = grind arith;
             first = λ none. cause;
-            below_went = λ none. sym g.began ∙ none;
+            below_was_going = λ none. sym g.began ∙ none;
             rises = came.least;
             lines = λ none. came.lines;
             near = λ none. near_after old.below new.below came.bytes.0 came.lines came.least;
@@ -464,7 +465,7 @@ module _ {S A State : Type 0} (device : Source S) where
       state = follows.state ∙ g.state;
       again = grind arith;
       first = λ none. let going = sym g.rest ∙ g.going none in read_cause now new fault g gives going (gives.first going);
-      below_went = λ none. sym g.began ∙ none;
+      below_was_going = λ none. sym g.began ∙ none;
       rises = omega (arith, g.passed.least, gives.counted);
       lines = λ none. absurd (let apart : None ≡ Some fault = sym none ∙ gives.kept in cc);
       near = λ none. near_fault device old.below now.below new.below g.passed fault gives (sym g.rest ∙ g.going none);

@@ -280,7 +280,7 @@ module _ {G : Type 0} {device : Source G} {genome after : G} {old : LineReader G
     unread_text unread handed reads =
         let texts = cut_text device old new source ended fresh handed reads unfed (unread.fails.cut (record { end = sound.end; within = sound.within })) in
         let front = take (2 ^ 63 - 1) reads.bytes in
-        let made = at_genome reads.text (λ lines. (entries : List Entry) × (genome_of (input_of old) (take (lines_given new - lines_given old) lines) ≡ Ok entries)) reads.known (lines_before_known device old new bytes.1 (λ lines. (entries : List Entry) × (genome_of (input_of old) (take (lines_given new - lines_given old) lines) ≡ Ok entries)) unread.passed) in
+        let made = at_genome reads.text (λ lines. (entries : List Entry) × (genome_of (input_of old) (take (lines_given new - lines_given old) lines) ≡ Ok entries)) reads.known (lines_before_known device old new bytes.1 (λ lines. (entries : List Entry) × (genome_of (input_of old) (take (lines_given new - lines_given old) lines) ≡ Ok entries)) (λ rest follows. (unread.given, unread.passed rest follows))) in
         let first : genome_of FromGenome (take (line_feeds front) (text_lines (front ++ texts.more))) ≡ Ok made.0 =
         ap (λ t. genome_of FromGenome (take (line_feeds front) (text_lines t))) texts.text
         ∙ ap (λ n. genome_of FromGenome (take n (text_lines reads.text))) (sym (omega (arith, texts.given, none_given)))
