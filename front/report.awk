@@ -52,6 +52,8 @@ function plain(text) {
     sub(/^bedtools [a-z]+: .*:[0-9]+: /, "", text)
     sub(/^bedtools [a-z]+: .*: cannot be opened$/, "an input cannot be opened", text)
     sub(/^bedtools: /, "", text)
+    # The name of a file; but not what stands before an option.
+    if (text !~ /: -/) sub(/^.*: /, "", text)
     if (match(text, SAID)) text = "FILE" substr(text, RSTART)
     gsub(/[^ ]*[.\/][^ ]*[^ .:;,]/, "FILE", text)
     return text
