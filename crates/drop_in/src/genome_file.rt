@@ -26,11 +26,7 @@ pub struct GenomeFile {
 }
 
 /// Reads a genome file.
-pub fn read_genome<F: Files>(
-    alloc: Global,
-    files: &mut F,
-    name: &str,
-) -> Result<GenomeFile, Why>
+pub fn read_genome<F: Files>(alloc: Global, files: &mut F, name: &str) -> Result<GenomeFile, Why>
     ensures reads { IfOk result (λ file. ReadsGenomeFile F.Files F.Input.Source files.old name.now file files.new) }
     ensures leaves { IfErr result (λ why. LeavesFileAt F.Files files.old name.now files.new) }
 {
@@ -77,9 +73,6 @@ fn genome_in(alloc: Global, text: &[u8]) -> Result<Genome, Fault>
     Genome::read(alloc, &mut lines)
 }
 
-// The longest line of a genome file of which bedtools writes all of the name, with a start and an end.
-const LONGEST_LINE: usize = 1000;
-
 // What bedtools reads otherwise in the text of a genome file.
 fn odd_in(text: &[u8]) -> Option<Why> {
     for line in text.split(|byte| *byte == b'\n') {
@@ -88,9 +81,6 @@ fn odd_in(text: &[u8]) -> Option<Why> {
         }
         if line.contains(&0) {
             return Some(Why::NulInGenome);
-        }
-        if line.len() > LONGEST_LINE {
-            return Some(Why::LongInGenome);
         }
     }
     None

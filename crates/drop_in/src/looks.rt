@@ -71,10 +71,12 @@ pub fn look_at_file<F: Files>(
 // Why a file is left.
 fn file_why(input: Input, trouble: Trouble) -> Why {
     match trouble {
-        Trouble::Odd(OddLine {
-            oddity: Oddity::Gzip,
-            ..
-        }) => Why::Zipped(input),
+        Trouble::Odd(
+            OddLine {
+                oddity: Oddity::Gzip,
+                ..
+            },
+        ) => Why::Zipped(input),
         _ => Why::Text(input, trouble),
     }
 }
@@ -108,7 +110,11 @@ pub fn look_at_stream<F: Files>(
 }
 
 // Surveys a stream, which is kept.
-fn survey_stream<I: Source>(alloc: Global, source: I, room: usize) -> (Result<Survey, Trouble>, ReadStream<I>)
+fn survey_stream<I: Source>(
+    alloc: Global,
+    source: I,
+    room: usize,
+) -> (Result<Survey, Trouble>, ReadStream<I>)
     ensures { SurveysStream I.Source source result.1 result.0 }
 {
     let keeping = Keeping::new(alloc, source, room);

@@ -11,6 +11,8 @@
 //! - *line*: what says who takes a call.
 #![tactic(auto)]
 
+#[cfg(test)]
+mod answer_tests;
 mod answering;
 mod front_files;
 mod genome_file;

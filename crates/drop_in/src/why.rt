@@ -29,8 +29,6 @@ pub enum Why {
     TabInComment,
     /// The genome file has a NUL, at which bedtools cuts a name.
     NulInGenome,
-    /// The genome file has a line that bedtools may cut.
-    LongInGenome,
     /// The verdict on the inputs.
     Verdict(Reason),
     /// It converts alignments.
@@ -86,11 +84,9 @@ impl Why {
     pub fn input(self) -> Option<Input> {
         match self {
             Why::Unopened(input) | Why::Text(input, _) | Why::Zipped(input) => Some(input),
-            Why::Genome(_)
-            | Why::TabInComment
-            | Why::NulInGenome
-            | Why::LongInGenome
-            | Why::GenomeStream => Some(Input::Genome),
+            Why::Genome(_) | Why::TabInComment | Why::NulInGenome | Why::GenomeStream => Some(
+                Input::Genome,
+            ),
             _ => None,
         }
     }
@@ -109,7 +105,6 @@ impl Why {
             Why::Genome(fault) => kind_text(fault.kind),
             Why::TabInComment => "a comment has a tab",
             Why::NulInGenome => "a line has a NUL",
-            Why::LongInGenome => "a line is too long for bedtools",
             Why::Verdict(reason) => verdict_text(reason),
             Why::Alignments => "it converts alignments",
             Why::CoverageForm => "it is a form of genomecov that awk makes",
@@ -152,7 +147,7 @@ fn oddity_text(oddity: Oddity) -> &'static str {
         Oddity::Blank => "a blank line",
         Oddity::DoubleReturn => "a line that has CR CR",
         Oddity::Nul => "a line that has a NUL",
-        Oddity::Long => "a line of over 1,023 bytes",
+        Oddity::Long => "a line of over 1,015 bytes",
         Oddity::Vcf => "it is VCF",
         Oddity::ByteOrderMark => "it has a byte order mark",
         Oddity::Gzip => "it begins as a gzip file",
@@ -178,6 +173,7 @@ fn verdict_text(reason: Reason) -> &'static str {
         Reason::NotByGenome => "an input isn't in the order of the genome file",
         Reason::PastLength => "a record goes past the end of its chromosome",
         Reason::LongChromosome => "the genome file has a chromosome that is too long for bedtools",
+        Reason::LongName => "the genome file has a name that is too long for bedtools",
         Reason::EmptyNotLast => "chromosomes without records don't come last in the genome file",
         Reason::ManyRecords => "bedtools rounds a depth of a million",
         Reason::NotByBytes => "its chromosomes aren't in the order of the bytes",

@@ -1,13 +1,14 @@
 //! What the words of a call say, whatever is in its files.
 
-ghost use Rattle.std.specs.Prelude.{◌≡◌, IfErr, IfOk};
+ghost use Rattle.std.specs.Prelude.{◌≡◌, ◌-◌, ◌≤◌, Err, IfSome, Some, slice_get};
 ghost use Rattle.bt_tool.specs.calls.Plan.{words_seen};
-ghost use Rattle.drop_in.specs.calls.Words.{AsksFor, IsWhyOfWords, command_why, names_command, option_of};
+ghost use Rattle.bt_tool.specs.model.Options.{options};
+ghost use Rattle.drop_in.specs.calls.Words.{IsWhyOfWords, command_why, names_command, option_of};
 
 use crate::why::Why;
 use bt_front::{Asked, lists_hits};
 use bt_lines::Input;
-use bt_tool::{Command, Plan, Refusal, plan};
+use bt_tool::{Command, Plan, Refusal, Usage, plan};
 use std::alloc::Global;
 
 /// What the words of a call ask for.
@@ -36,10 +37,7 @@ impl Request {
         let plan = match plan(alloc, words) {
             Ok(plan) => plan,
             Err(Refusal::NoMemory) => return Err(Why::NoMemory),
-            Err(Refusal::Usage(_)) if is_command(words, "genomecov") => {
-                return Err(Why::CoverageForm);
-            }
-            Err(Refusal::Usage(usage)) => return Err(Why::Usage(usage)),
+            Err(Refusal::Usage(usage)) => return Err(usage_why(words, usage)),
         };
         if let Some(why) = command_why(plan.command) {
             return Err(why);
@@ -69,6 +67,17 @@ impl Request {
     {
         lists_hits(self.plan.command) && !self.is_sorted
     }
+}
+
+// Why words without a plan leave the call.
+fn usage_why(words: &[String], usage: Usage) -> Why
+    requires { options (words_seen words.now) ≡ Err usage }
+    ensures { IsWhyOfWords (words_seen words.now) result }
+{
+    if is_command(words, "genomecov") {
+        return Why::CoverageForm;
+    }
+    Why::Usage(usage)
 }
 
 // Whether the first word is this command.
@@ -108,7 +117,10 @@ pub fn option_of(command: Command, input: Input) -> &'static str
 }
 
 /// Where the value of an option stands among the words of a call, if the option is given: counted from 1.
-pub fn value_place(words: &[String], option: &str) -> Option<usize> {
+pub fn value_place(words: &[String], option: &str) -> Option<usize>
+    ensures after { IfSome result (λ place. slice_get (words_seen words.now) (place - 2) ≡ Some option.now) }
+    ensures at_least { IfSome result (λ place. 3 ≤ place) }
+{
     let mut at = 1;
     while at < words.len() {
         let word = words[at].as_str();

@@ -202,7 +202,7 @@ module _ {F I O : Type 0} (files : Files F I O) (source : Source I) (names : Nam
       → (before : F) (other : Word) (first second : Seen I) (after : F) → names.second ≡ Some other
       → SeesTwo files source first_is streams.second before names.first other first second after
       → Leaves files source (IsFileOf names streams) (IsStreamOf names streams) before
-        (stream_among first.reading (Some second.reading)) after
+      (stream_among first.reading (Some second.reading)) after
   judged_two true is one before other first second after named sees =
       judged_swapped files source (IsFileOf names streams) (IsStreamOf names streams) before names.first other first second after
       (second_file other named (other_is_file streams.first streams.second one is)) (first_stream is) sees
@@ -214,7 +214,7 @@ module _ {F I O : Type 0} (files : Files F I O) (source : Source I) (names : Nam
       → (before : F) (first : Seen I) (second : Option (Seen I)) (after : F)
       → SeesInputs files source streams.first streams.second before names.first other first second after
       → Leaves files source (IsFileOf names streams) (IsStreamOf names streams) before
-        (stream_among first.reading (reading_if second)) after
+      (stream_among first.reading (reading_if second)) after
   judged_inputs None named one before first None after sees =
       judged_one files source (IsFileOf names streams) (IsStreamOf names streams) streams.first before names.first first after
       first_stream first_file sees

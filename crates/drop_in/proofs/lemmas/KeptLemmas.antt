@@ -41,7 +41,7 @@ module _ {S : Type 0} (IsRead : S → Option (List ℕ) → S → Type 0) where
   -- or it failed then
   pub kept_fails : (first last : Keeping S) (bytes : List ℕ) → FailsAfter (IsKeptRead IsRead) first bytes last
       → (ReadsOn IsRead (source_of first) bytes (source_of last) ⊎ FailsAfter IsRead (source_of first) bytes (source_of last))
-        × (kept_of last ≡ kept_of first ++ bytes)
+      × (kept_of last ≡ kept_of first ++ bytes)
   kept_fails first last bytes fails =
       let so = kept_reads fails.served in (by_cause so.0 (fails.fails.1), fails.fails.0 ∙ so.1)
     where
@@ -81,14 +81,14 @@ module _ {S : Type 0} (device : Source S) where
           bytes = surveys.bytes;
           served = so.0;
           told = surveys.told;
-          plain = surveys.plain;
+          is = surveys.is;
           known = surveys.known;
         },
         is ∙ so.1 ∙ ap (λ (old : List ℕ). old ++ surveys.bytes) none,
       )
   surveyed_below first last kept (Err trouble) none is leaves =
       let so = handed_below first last leaves.bytes leaves.handed in (
-        record { bytes = leaves.bytes; handed = so.0; known = leaves.known },
+        record { bytes = leaves.bytes; handed = so.0; is = leaves.is; known = leaves.known },
         is ∙ so.1 ∙ ap (λ (old : List ℕ). old ++ leaves.bytes) none,
       )
 

@@ -1,11 +1,13 @@
 -- What the words of a call ask for, or why it isn't run here.
-use Rattle.std.specs.Prelude.{ℕ, ◌≡◌, Bool, false, List, [], ◌∷◌, bytes_eq, codes, Option, Some, None, Ok, Err, is_some, ⊤}
+use Rattle.std.specs.Prelude.{ℕ, ◌≡◌, Bool, false, true, List, [], ◌∷◌, bytes_eq, codes, Option, Some, None, Ok, Err, IsOk}
 use Rattle.bt_lines.specs.declared.fault.Input.{Input}
 use Rattle.bt_lines.specs.declared.fault.Input.TheVariants.{First, Genome, Second}
 use Rattle.bt_front.specs.model.Words.{asked_of}
 use Rattle.bt_tool.specs.calls.Plan.{plan_seen}
 use Rattle.bt_tool.specs.declared.planning.plan_type.Command.{Command}
 use Rattle.bt_tool.specs.declared.planning.plan_type.Command.TheVariants.{BamToBed, Intersect, MaskFasta, Subtract}
+use Rattle.bt_front.specs.declared.words.word_reason.WordReason.{WordReason}
+use Rattle.bt_tool.specs.declared.options.usage.Usage.{Usage as UsageFault}
 use Rattle.bt_tool.specs.model.Options.{PlanSeen, options}
 use Rattle.bt_tool.specs.model.Table.{Word}
 use Rattle.drop_in.specs.calls.Call.{asked_by}
@@ -33,12 +35,20 @@ pub record AsksFor (words : List Word) (request : Request) : Type 0 where
   pub run_here : command_why request.plan.command ≡ None
 
 -- what the words say leaves the call
-abbrev pub IsWhyOfWords : List Word → Why → Type 0
-IsWhyOfWords words NoMemory = ⊤
-IsWhyOfWords words Alignments = ⊤
-IsWhyOfWords words (Usage usage) = options words ≡ Err usage
-IsWhyOfWords words (Words reason) = (plan : PlanSeen) × (options words ≡ Ok plan) × (asked_of words plan ≡ Err reason)
-IsWhyOfWords words why = ⊤
+pub data IsWhyOfWords (words : List Word) : Why → Type 0 where
+  -- there is no memory for their plan
+  no_memory : IsOk (options words) → IsWhyOfWords words NoMemory
+  converts : names_command words (codes "bamtobed") ≡ true → IsWhyOfWords words Alignments
+  -- a form of genomecov of which there is no plan
+  other_form : (usage : UsageFault) → names_command words (codes "genomecov") ≡ true → options words ≡ Err usage
+      → IsWhyOfWords words CoverageForm
+  no_plan : (usage : UsageFault) → options words ≡ Err usage → IsWhyOfWords words (Usage usage)
+  -- the command isn't run here
+  not_here : (plan : PlanSeen) (why : Why) → options words ≡ Ok plan → command_why plan.command ≡ Some why
+      → IsWhyOfWords words why
+  -- bedtools takes the words
+  not_ours : (plan : PlanSeen) (reason : WordReason) → options words ≡ Ok plan → asked_of words plan ≡ Err reason
+      → IsWhyOfWords words (Words reason)
 
 -- the option that names an input of a command
 abbrev pub option_of : Command → Input → Word

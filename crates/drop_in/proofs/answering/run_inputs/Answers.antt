@@ -10,7 +10,7 @@ use Rattle.drop_in.proofs.answering.run_inputs.Goals as goal
 pub returns : goal.returns
 returns g c =
     let is : plan_seen c.with_order-plan.result ≡ plan_by (is_some c.args.inputs.genome) (plan_seen c.args.plan) =
-      c.with_order-plan.ensures ∙ ap (λ (has : Bool). plan_by has (plan_seen c.args.plan)) c.is_some.ensures in record {
+    c.with_order-plan.ensures ∙ ap (λ (has : Bool). plan_by has (plan_seen c.args.plan)) c.is_some.ensures in record {
       front = c.ready-front.result;
       front_after = c.carry_out-finished.new.files;
       ready = c.ready-front.ensures;
