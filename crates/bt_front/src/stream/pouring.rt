@@ -1,7 +1,8 @@
 //! What becomes of a stream that another program takes.
 
-ghost use Rattle.std.specs.Prelude.{◌≡◌, IfErr, OnOk};
+ghost use Rattle.std.specs.Prelude.{◌≡◌, IfErr, OnErr, OnOk};
 ghost use Rattle.std.specs.Io.KnownBytes.{Appends, Keeps};
+ghost use Rattle.bt_lines.specs.calls.Output.{SinkFailed};
 ghost use Rattle.bt_front.specs.calls.Stream.{IsCutOff, IsPoured};
 ghost use Rattle.bt_front.specs.declared.stream.pouring.Unpoured.TheVariants.{Stream, Taker};
 
@@ -28,6 +29,7 @@ pub fn pour<S: Source, K: Sink>(
     ensures all { OnOk result (IsPoured S.Source kept.now stream.old taker.old.output stream.new taker.new.output) }
     ensures cut_off { IfErr result (λ why. why ≡ Stream
         → IsCutOff S.Source kept.now stream.old taker.old.output stream.new taker.new.output) }
+    ensures gone { IfErr result (λ why. why ≡ Taker → SinkFailed taker.new.output) }
 {
     put(kept, taker)?;
     let mut piece = [0u8; PIECE];
@@ -46,6 +48,7 @@ fn put<K: Sink>(piece: &[u8], taker: &mut Out<K>) -> Result<(), Unpoured>
     ensures put { OnOk result (Appends taker.old.output.put taker.new.output.put piece.now) }
     ensures taken { OnOk result (Keeps taker.new.output.put taker.new.output.took) }
     ensures taker { IfErr result (λ why. why ≡ Taker) }
+    ensures gone { OnErr result (SinkFailed taker.new.output) }
 {
     match taker.put(piece) {
         Ok(()) => {}
