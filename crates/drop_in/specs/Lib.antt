@@ -1,3 +1,2 @@
 pub mod calls
 pub mod inside
-pub mod model

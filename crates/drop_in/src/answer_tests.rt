@@ -3,6 +3,7 @@
 ghost use Rattle.std.specs.Prelude.{⊤};
 
 use crate::answering::{Answered, Streams, answer};
+use crate::looks::Left;
 use crate::why::Why;
 use crate::words::Request;
 use bt_files::{Files, Unopened};
@@ -51,23 +52,17 @@ impl<'t> Files for ScriptFiles<'t> {
     }
 }
 
-// What becomes of a call.
-#[derive(Clone, Copy, Debug)]
-enum Want {
-    // It is taken, and this is written.
-    Taken(&'static [u8]),
-    // It is left for this, with what was kept of a stream.
-    Left(Why, Option<&'static [u8]>),
-}
-
-// A call, which of `a` and `b` are streams, the texts of `a`, `b` and `g`, and what becomes of it.
+// A call, which of `a` and `b` are streams, and the texts of `a`, `b` and `g`. Then what is written if it is taken; or why it is
+// left, and what was kept of its stream.
 type Row = (
     &'static str,
     (bool, bool),
     &'static [u8],
     &'static [u8],
     &'static [u8],
-    Want,
+    Option<&'static [u8]>,
+    Option<Why>,
+    Option<&'static [u8]>,
 );
 
 const FILES: (bool, bool) = (false, false);
@@ -88,20 +83,20 @@ const BLANK: Why = Why::Text(
 
 #[rattlefmt::skip]
 const ROWS: [Row; 14] = [
-    ("merge -i a", FILES, ONE, b"", b"", Want::Taken(b"chr1\t1\t9\n")),
-    ("merge -i a", (true, false), ONE, b"", b"", Want::Taken(b"chr1\t1\t9\n")),
-    ("merge -i a", FILES, OTHER, b"", b"", Want::Taken(b"chr2\t0\t4\nchr1\t2\t4\n")),
-    ("intersect -u -a a -b b", FILES, OTHER, b"chr1\t3\t4\n", b"", Want::Taken(b"chr1\t2\t4\n")),
-    ("intersect -v -a a -b b", (false, true), OTHER, b"chr1\t3\t4\n", b"", Want::Taken(b"chr2\t0\t4\n")),
-    ("intersect -v -a a -b b", (true, false), OTHER, b"chr1\t3\t4\n", b"", Want::Taken(b"chr2\t0\t4\n")),
-    ("complement -i a -g g", FILES, ONE, b"", b"chr1\t20\n", Want::Taken(b"chr1\t0\t1\nchr1\t9\t20\n")),
-    ("complement -i a -g g", FILES, ONE, b"", b"#chr\t5\nchr1\t20\n", Want::Left(Why::TabInComment, None)),
-    ("complement -i a -g g", FILES, ONE, b"", b"chr2\t20\n", Want::Left(Why::Verdict(Reason::NotByGenome), None)),
-    ("intersect -sorted -u -a a -b b", (true, false), OTHER, OTHER, b"", Want::Left(Why::Verdict(Reason::NotByBytes), Some(OTHER))),
-    ("merge -i a", (true, false), b"chr1\t1\t5\n\nchr1\t3\t9\n", b"", b"", Want::Left(BLANK, Some(b"chr1\t1\t5\n\nchr1"))),
-    ("merge -i c", FILES, ONE, b"", b"", Want::Left(Why::Unopened(Input::First), None)),
-    ("intersect -v -a a -b b", (true, true), ONE, ONE, b"", Want::Left(Why::TwoStreams, None)),
-    ("intersect -wb -a a -b b", FILES, ONE, BACK, b"", Want::Left(Why::Hits, None)),
+    ("merge -i a", FILES, ONE, b"", b"", Some(b"chr1\t1\t9\n"), None, None),
+    ("merge -i a", (true, false), ONE, b"", b"", Some(b"chr1\t1\t9\n"), None, None),
+    ("merge -i a", FILES, OTHER, b"", b"", Some(b"chr2\t0\t4\nchr1\t2\t4\n"), None, None),
+    ("intersect -u -a a -b b", FILES, OTHER, b"chr1\t3\t4\n", b"", Some(b"chr1\t2\t4\n"), None, None),
+    ("intersect -v -a a -b b", (false, true), OTHER, b"chr1\t3\t4\n", b"", Some(b"chr2\t0\t4\n"), None, None),
+    ("intersect -v -a a -b b", (true, false), OTHER, b"chr1\t3\t4\n", b"", Some(b"chr2\t0\t4\n"), None, None),
+    ("complement -i a -g g", FILES, ONE, b"", b"chr1\t20\n", Some(b"chr1\t0\t1\nchr1\t9\t20\n"), None, None),
+    ("complement -i a -g g", FILES, ONE, b"", b"#chr\t5\nchr1\t20\n", None, Some(Why::TabInComment), None),
+    ("complement -i a -g g", FILES, ONE, b"", b"chr2\t20\n", None, Some(Why::Verdict(Reason::NotByGenome)), None),
+    ("intersect -sorted -u -a a -b b", (true, false), OTHER, OTHER, b"", None, Some(Why::Verdict(Reason::NotByBytes)), Some(OTHER)),
+    ("merge -i a", (true, false), b"chr1\t1\t5\n\nchr1\t3\t9\n", b"", b"", None, Some(BLANK), Some(b"chr1\t1\t5\n\nchr1")),
+    ("merge -i c", FILES, ONE, b"", b"", None, Some(Why::Unopened(Input::First)), None),
+    ("intersect -v -a a -b b", (true, true), ONE, ONE, b"", None, Some(Why::TwoStreams), None),
+    ("intersect -wb -a a -b b", FILES, ONE, BACK, b"", None, Some(Why::Hits), None),
 ];
 
 // The words of a line, which spaces divide.
@@ -113,41 +108,50 @@ fn strings(alloc: Global, line: &str) -> Result<Vec<String>, AllocError> {
     Ok(words)
 }
 
-// Whether a call becomes what the row wants.
-fn becomes(alloc: Global, row: &Row) -> Result<bool, Fail> {
-    let (line, (first, second), one, other, genome, want) = *row;
-    let words = strings(alloc, line)?;
-    let request = Request::of(alloc, words.as_slice()).ok().ok_or(line)?;
-    let files = ScriptFiles {
+fn files_of(
+    alloc: Global,
+    first: &'static [u8],
+    second: &'static [u8],
+    genome: &'static [u8],
+) -> ScriptFiles<'static> {
+    ScriptFiles {
         alloc,
-        first: one,
-        second: other,
-        genome,
-    };
-    let streams = Streams {
-        genome: false,
         first,
         second,
-    };
-    let (answered, _files) = answer(alloc, files, request, streams, 100);
-    Ok(is_wanted(&answered, want))
+        genome,
+    }
 }
 
-fn is_wanted(answered: &Answered<ScriptSource<'_>, ScriptSink>, want: Want) -> bool {
-    match (answered, want) {
-        (Answered::Took(finished), Want::Taken(text)) => match &finished.left {
-            Some(left) => left.output.taken() == text && finished.message.status == 0,
-            None => false,
+fn is_text(text: &[u8], want: Option<&'static [u8]>) -> bool {
+    match want {
+        Some(wanted) => text == wanted,
+        None => false,
+    }
+}
+
+// Whether a call becomes what the row wants.
+fn becomes(alloc: Global, row: &Row) -> Result<bool, Fail> {
+    let words = strings(alloc, row.0)?;
+    let request = Request::of(alloc, words.as_slice()).ok().ok_or(row.0)?;
+    let files = files_of(alloc, row.2, row.3, row.4);
+    let streams = Streams {
+        genome: false,
+        first: row.1.0,
+        second: row.1.1,
+    };
+    let (answered, _files) = answer(alloc, files, request, streams, 100);
+    match answered {
+        Answered::Took(finished) => match &finished.left {
+            Some(left) => Ok(is_text(left.output.taken(), row.5)),
+            None => Ok(false),
         },
-        (Answered::Left(left), Want::Left(why, kept)) => {
-            left.why == why
-                && match (&left.stream, kept) {
-                    (Some(stream), Some(kept)) => stream.kept.as_slice() == kept,
-                    (None, None) => true,
-                    _ => false,
-                }
+        Answered::Left(left) => {
+            let Left { why, stream } = left;
+            match stream {
+                Some(stream) => Ok(Some(why) == row.6 && is_text(stream.kept.as_slice(), row.7)),
+                None => Ok(Some(why) == row.6 && row.7.is_none()),
+            }
         }
-        _ => false,
     }
 }
 

@@ -69,8 +69,12 @@ fn read_text<S: Source + Drop>(alloc: Global, source: S) -> Option<Vec<u8>>
 fn genome_in(alloc: Global, text: &[u8]) -> Result<Genome, Fault>
     ensures { IfOk result (λ genome. genome_handed OfGenome (whole_text text.now) ≡ Ok (entries genome)) }
 {
-    let mut lines = LineReader::new(alloc, FromRead::new(text), Input::Genome);
-    Genome::read(alloc, &mut lines)
+    let source = FromRead::new(text);
+    let mut lines = LineReader::new(alloc, source, Input::Genome);
+    match Genome::read(alloc, &mut lines) {
+        Ok(genome) => Ok(genome),
+        Err(fault) => Err(fault),
+    }
 }
 
 // What bedtools reads otherwise in the text of a genome file.

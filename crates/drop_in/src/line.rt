@@ -1,7 +1,7 @@
 //! The line that says who takes a call.
 
 ghost use Rattle.std.specs.Prelude.{◌≡◌, IfOk};
-ghost use Rattle.drop_in.specs.model.Line.{line_text};
+ghost use Rattle.drop_in.specs.calls.Line.{line_text};
 
 use itoa::Buffer;
 use std::alloc::{AllocError, Global};

@@ -40,7 +40,8 @@ pub struct Seen<I> {
     pub reading: Reading<I>,
 }
 
-/// Looks at a file, and opens it again for the run.
+/// Looks at a file. It is opened twice before it is surveyed, so that the run reads what was surveyed, also if the file is
+/// removed or replaced.
 pub fn look_at_file<F: Files>(
     alloc: Global,
     files: &mut F,
@@ -54,17 +55,17 @@ pub fn look_at_file<F: Files>(
         Ok(source) => source,
         Err(why) => return Err(why),
     };
-    let (surveyed, _source) = Survey::read(alloc, source);
-    let survey = match surveyed {
-        Ok(survey) => survey,
-        Err(trouble) => return Err(file_why(input, trouble)),
+    let again = match open(files, name, input) {
+        Ok(again) => again,
+        Err(why) => return Err(why),
     };
-    match open(files, name, input) {
-        Ok(again) => Ok(Seen {
+    let (surveyed, _source) = Survey::read(alloc, source);
+    match surveyed {
+        Ok(survey) => Ok(Seen {
             survey,
             reading: Reading::File(again),
         }),
-        Err(why) => Err(why),
+        Err(trouble) => Err(file_why(input, trouble)),
     }
 }
 

@@ -1,10 +1,10 @@
 //! Which names of inputs are streams, that can be read only once.
 
 ghost use Rattle.std.specs.Prelude.{◌≡◌};
-ghost use Rattle.drop_in.specs.model.Names.{is_of_standard_input};
+ghost use Rattle.drop_in.specs.calls.Names.{is_of_standard_input};
 
 /// Whether a name leads to standard input: then the words of a call may stay as they are.
-#[tactic(auto, unfolding(crate::specs::model::Names::is_of_standard_input))]
+#[tactic(auto, unfolding(crate::specs::calls::Names::is_of_standard_input))]
 pub fn is_of_standard_input(name: &str) -> bool
     ensures { result ≡ is_of_standard_input name.now }
 {

@@ -34,6 +34,11 @@ module _ {F I O : Type 0} (files : Files F I O) where
   left_again before name input between after opens refuses =
       then_refused (left_opened before name input between opens) name after refuses
 
+  pub left_twice : (before : F) (name : Word) (input : I) (between : F) (again : I) (after : F) → files.opens before name input between
+      → files.opens between name again after → LeavesFileAt files before name after
+  left_twice before name input between again after opens opens_again =
+      then_opened (left_opened before name input between opens) name again after refl opens_again
+
   pub opens_weaker : (P Q : Word → Type 0) {a b : F} → ((name : Word) → P name → Q name) → OnlyOpens files P a b → OnlyOpens files Q a b
   opens_weaker P Q weaker none_opened = none_opened
   opens_weaker P Q weaker (then_opened one name input after named opens) =

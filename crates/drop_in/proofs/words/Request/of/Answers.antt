@@ -8,7 +8,7 @@ pub returns-then-is_command-clause-why : goal.returns-then-is_command-clause-why
 returns-then-is_command-clause-why c = converts (sym c.is_command.ensures ∙ c.if-is_command.true)
 
 pub returns-in-Err-NoMemory-clause-why : goal.returns-in-Err-NoMemory-clause-why
-returns-in-Err-NoMemory-clause-why c = no_memory c.in-Err-NoMemory.ensures.refused
+returns-in-Err-NoMemory-clause-why c = no_memory (rw c.in-Err-NoMemory.field-0-is at c.in-Err-NoMemory.ensures.refused)
 
 pub returns-in-Err-Usage-clause-why : goal.returns-in-Err-Usage-clause-why
 returns-in-Err-Usage-clause-why c = c.usage_why.ensures
