@@ -61,11 +61,11 @@ pub enum Taker {
 }
 
 impl Why {
-    /// Who takes the call, which may be one of `genomecov`: the shell has other orders for that.
+    /// Who takes the call, which may be one of `genomecov`: the shell has other orders for that, and depths of over six digits.
     pub fn taker(self, is_coverage: bool) -> Taker {
         match self {
             Why::Verdict(Reason::NotByGenome) if is_coverage => Taker::Shell,
-            Why::Verdict(Reason::EmptyNotLast) => Taker::Shell,
+            Why::Verdict(Reason::EmptyNotLast | Reason::ManyRecords) => Taker::Shell,
             Why::Words(WordReason::ZerosOfStrand) => Taker::Shell,
             Why::Alignments
             | Why::CoverageForm
