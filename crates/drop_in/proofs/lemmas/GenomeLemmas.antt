@@ -7,6 +7,7 @@ use Rattle.bt_lines.specs.declared.fault.Input.TheVariants.{Genome as OfGenome}
 use Rattle.bt_lines.specs.declared.reader.line_reader.LineReader.{LineReader}
 use Rattle.bt_lines.specs.calls.Reader.{EndsKnown, bytes_left, end_told, held, input_of, left_at, lines_coming, lines_given, lines_left, source_of}
 use Rattle.bt_lines.specs.model.Lines.{TextLine, lines_from, text_lines, whole_text}
+use Rattle.bt_lines.proofs.lemmas.reader.lines.LeftLemmas.{all_left}
 use Rattle.bt_bed.specs.model.Genome.{genome_handed, genome_of}
 use Rattle.bt_bed.specs.calls.GenomeTable.{ReadsAll, entries}
 use Rattle.bt_bed.specs.declared.order.genome.Genome.{Genome}
@@ -32,8 +33,10 @@ module _ {S : Type 0} (device : Source S) (old new : LineReader S) where
       whole_read (end_told old) (end_told new) (device.left (source_of old)) lines reads.bytes.0 (held old) (suc (lines_given old))
       (reads.bytes.1.ends.0) (reads.bytes.1.ends.1) reads.told are
 
-  pub read_whole : (text : List ℕ) (genome : Genome) → lines_left device.left old ≡ Some (text_lines text) → input_of old ≡ OfGenome
+  pub read_whole : (text : List ℕ) (genome : Genome) → device.left (source_of old) ≡ Some text → end_told old ≡ false
+      → ((rest : List ℕ) → lines_coming rest old ≡ text_lines rest) → input_of old ≡ OfGenome
       → ReadsAll device old new genome → genome_handed OfGenome (whole_text text) ≡ Ok (entries genome)
-  read_whole text genome are input reads =
+  read_whole text genome left untold come input reads =
+      let are : lines_left device.left old ≡ Some (text_lines text) = all_left device.left old untold come ∙ ap (option_map text_lines) left in
       subst (λ (i : Input). genome_of i (text_lines text) ≡ Ok (entries genome)) input
       (subst (λ (lines : List TextLine). genome_of (input_of old) lines ≡ Ok (entries genome)) (come_whole (text_lines text) genome are reads) reads.is)

@@ -88,7 +88,7 @@ module _ {S : Type 0} (device : Source S) where
       )
   surveyed_below first last kept (Err trouble) none is leaves =
       let so = handed_below first last leaves.bytes leaves.handed in (
-        record { bytes = leaves.bytes; handed = so.0; is = leaves.is; known = leaves.known },
+        record { bytes = leaves.bytes; handed = so.0; ended = leaves.ended; told = leaves.told; is = leaves.is; known = leaves.known },
         is ∙ so.1 ∙ ap (λ (old : List ℕ). old ++ leaves.bytes) none,
       )
 
