@@ -54,7 +54,7 @@ UNTRUE = {
     r"tail -f`?, is used line by line": "its output comes 8,192 bytes at a time",
     r"merge -g`?[^.\n]*since bedtools refuses": "bedtools 2.30.0 takes merge -g",
     r"commented-out chromosome[^.|\n]*refused": "bedtools takes such a line for a chromosome",
-    r"[Ee]ach (?:claim )?is proved": "the last of the ten claims is tested",
+    r"[Ee]ach (?:claim )?is proved": "the tenth of the eleven claims is tested",
     r"dunekettle-bedtools (?:merge|complement|intersect|subtract|genomecov|bamtobed|maskfasta)\b":
         "what people type is dunekettle, with the command",
     r"(?<=\| )`no memory`[^\n]*none \|": "memory may run out in the middle",

@@ -1,5 +1,5 @@
 //! What decides who takes a command line of bedtools: its words ([`Asked::of`]), what a survey shows
-//! of its texts ([`Survey::read`]), and the verdict on both ([`Asked::verdict`]). Nothing calls them yet.
+//! of its texts ([`Survey::read`]), and the verdict on both ([`Asked::verdict`]).
 //!
 //! Words:
 //!
