@@ -6,7 +6,7 @@ ghost use Rattle.drop_in.specs.calls.Looks.{LeavesFileAt, LeavesStreamAt, SeesFi
 use crate::why::Why;
 use bt_files::{Files, Unopened};
 use bt_front::{Keeping, OddLine, Oddity, Survey, Trouble};
-use bt_lines::{Input, Source};
+use bt_lines::{Fault, Input, Kind, Source};
 use std::alloc::Global;
 
 /// A stream of which some was read.
@@ -104,9 +104,22 @@ pub fn look_at_stream<F: Files>(
             reading: Reading::Stream(stream),
         }),
         Err(trouble) => Err(Left {
-            why: Why::Text(input, trouble),
+            why: stream_why(input, trouble, room < stream.kept.len()),
             stream: Some(stream),
         }),
+    }
+}
+
+// Why a stream is left. A long one isn't read on.
+fn stream_why(input: Input, trouble: Trouble, is_long: bool) -> Why {
+    match trouble {
+        Trouble::Refused(
+            Fault {
+                kind: Kind::ReadFailed,
+                ..
+            },
+        ) if is_long => Why::LongStream,
+        _ => Why::Text(input, trouble),
     }
 }
 

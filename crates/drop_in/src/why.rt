@@ -47,6 +47,8 @@ pub enum Why {
     NoOriginal,
     /// The room for a stream is no number.
     Room,
+    /// A stream has more bytes than there is room for.
+    LongStream,
     /// An input that is a file begins as a gzip file.
     Zipped(Input),
 }
@@ -113,6 +115,7 @@ impl Why {
             Why::TwoStreams => "two of its inputs are streams",
             Why::GenomeStream => "it is a stream",
             Why::NoOriginal => "there is no other bedtools on PATH",
+            Why::LongStream => "its stream is long",
             Why::Room => "DUNEKETTLE_ROOM is no number",
             Why::Zipped(_) => "it begins as a gzip file",
         }
