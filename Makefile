@@ -173,7 +173,8 @@ is_silent = $(findstring s,$(filter-out -%,$(firstword $(MAKEFLAGS))))
 # The manual pages and the completions get the program's name there.
 install: $(PROGRAM) $(DROP_IN)
 	packaging/install.sh "$$DESTDIR$$PREFIX" "$$PREFIX" "$$NAME" $(PROGRAM) $(DROP_IN) $(DOCS)
-	$(if $(is_silent),,@[ -n "$$DESTDIR" ] || printf '%s\n' "Installed: $$PREFIX/bin/dunekettle. The drop-in:" \
+	$(if $(is_silent),,@[ -n "$$DESTDIR" ] || printf '%s\n' "Installed: $$PREFIX/bin/dunekettle" \
+	"    export PATH=\"$$PREFIX/bin:\$$PATH\"" "The drop-in, for scripts that call bedtools:" \
 	"    export PATH=\"$$PREFIX/lib/dunekettle/bin:\$$PATH\"")
 
 uninstall:

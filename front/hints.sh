@@ -117,6 +117,12 @@ reads_terminal() {
     esac
 }
 
+# warn_names: that names of one input begin with chr, and those of the other don't, as `names_fit` has found
+warn_names() {
+    names="$dk_a has $dk_first, $dk_b has $dk_found, and names are compared byte for byte"
+    advise "warning: $names. All of them: dunekettle check $(quoted_name "$dk_a") $(quoted_name "$dk_b")"
+}
+
 hint_unopened() {
     if [ "$file" = "$dk_fo" ]; then advise "$file can't be made, or it is an input under another name"
     elif [ ! -e "$file" ]; then advise "$file isn't there"

@@ -16,7 +16,7 @@ write_through() {
     dk_status=$?
     # What the program says where awk has failed, or has ended without a reader, isn't a fault of its own.
     case $dk_status in
-    3) grep . < "$dk_spare" >&2 || say "$dk_command was cut off" ;;
+    3) if grep . < "$dk_spare" >&2; then tell_whose; else say "$dk_command was cut off"; fi ;;
     1 | 2) fail_to_write ;;
     141) kill -s PIPE "$$"; fail_to_write ;; # The signal ends this shell, unless its caller ignores it.
     *) finish "$dk_status" ;;
@@ -37,5 +37,8 @@ become_filters() {
 }
 
 # fail_to_write: says so as the program does
-fail_to_write() { printf 'bedtools %s: writing failed\n' "$dk_command" >&2 2> /dev/null; }
+fail_to_write() {
+    printf 'bedtools %s: writing failed\n' "$dk_command" >&2 2> /dev/null
+    tell_whose
+}
 dk_part=through.sh

@@ -106,6 +106,11 @@ hint_option() {
 hint_scripts() {
     scripts=$1 needed=$2
     shift 2
+    if ! columns_are_made "$@"; then
+        made="bedtools has it, and the drop-in ($(page MIGRATING.md)) gives it such a call"
+        advise "$lacks, and no script does this: $made"
+        return
+    fi
     if gives_one_of "$needed" "$@"; then
         for script in $scripts; do
             ! hint_line "$(recipe "$script")" "$@" || return 0
@@ -114,6 +119,21 @@ hint_scripts() {
     [ -z "$needed" ] || needed=" with $(printf '%s' "$needed" | sed 's/ /, /g; s/\(.*\), /\1 or /; s/-wb/-wa -wb/')"
     scripts=$(printf '%s' "$scripts" | sed 's/ / or /g')
     advise "$lacks: $scripts ($(page RECIPES.md)) $does$needed; or bedtools, to which the drop-in gives such a call"
+}
+
+# columns_are_made WORD..: whether a script makes what -o of `merge` asks for, beside -s only the strand and a count
+columns_are_made() {
+    [ "$dk_command" = merge ] || return 0
+    operations='' columns='' before=''
+    for word; do
+        case $before in -o) operations=$word ;; -c) columns=$word ;; esac
+        before=$word
+    done
+    [ -n "$operations" ] || return 0
+    if given -s "$@"; then [ "$columns/$operations" = 6,4/distinct,count ]; return; fi
+    for operation in $(printf '%s' "$operations" | tr ',' ' '); do
+        case $operation in count | sum | mean | min | max | collapse | distinct | count_distinct) ;; *) return 1 ;; esac
+    done
 }
 
 # hint_line SCRIPT WORD..: the line that calls it, if it takes these words; some scripts don't take the option that they
@@ -126,6 +146,13 @@ hint_line() {
         for word; do
             shift
             [ "$word" = "$wanted" ] || set -- "$@" "$word"
+        done
+        ;;
+    */merge-s-c.sh)
+        given -s "$@" || return
+        for word; do
+            shift
+            case $word in -s | -c | 6,4 | -o | distinct,count) ;; *) set -- "$@" "$word" ;; esac
         done
         ;;
     esac
@@ -146,7 +173,10 @@ gives_one_of() {
 takes_words() {
     known=" $(sed -n "s/^read_words '\([^']*\)'.*/\1/p" "$1" 2> /dev/null) "
     [ "$known" != '  ' ] || return
-    case $1 in */merge-c.sh) given -o "$@" || return ;; esac
+    case $1 in
+    */merge-c.sh) given -c "$@" && given -o "$@" || return ;;
+    */subtract-N.sh) given -f "$@" || return ;;
+    esac
     given -i "$@" || given -a "$@" || given -ibam "$@" || return
     shift
     while [ $# -gt 0 ]; do

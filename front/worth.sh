@@ -12,6 +12,10 @@ judge_first() {
         command -v "$dk_tool" > /dev/null || { dk_why="there is no $dk_tool"; return; }
     done
     case $dk_command$dk_words in
+    merge*' -i '*) ;;
+    merge*) if [ -t 0 ]; then dk_why='without -i bedtools shows its help at a terminal'; return; fi ;;
+    esac
+    case $dk_command$dk_words in
     *' -h '* | *' --help '*) dk_why='it asks for help' ;;
     *' -held '*) ;;
     merge*' -S '* | maskfasta*) dk_why='bedtools is as quick as a look at the files' ;;

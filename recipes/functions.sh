@@ -75,6 +75,15 @@ one_of() {
     [ "$given" = 1 ] || fail "give one of $*"
 }
 
+# all_of WORD..: fails unless each of these options is given
+all_of() {
+    local word name
+    for word; do
+        name=opt_${word#-}
+        [ -n "${!name-}" ] || fail "give $word"
+    done
+}
+
 # records FILE: its records, without header lines, blank lines and CR
 records() {
     from "$1" awk -F'\t' '{ sub(/\r$/, "") }
@@ -147,4 +156,11 @@ begin() {
         exit 2
     fi
     [ -z "${GENOME-}" ] || twice "$GENOME"
+    # Where no folder of PATH has the program, it is that of the installation to which these scripts belong.
+    case ${BEDTOOLS:+given}$here in
+    /*/share/dunekettle/recipes/*)
+        command -v dunekettle-bedtools > /dev/null ||
+            BEDTOOLS=${here%/share/dunekettle/recipes/*}/bin/dunekettle-bedtools
+        ;;
+    esac
 }

@@ -9,6 +9,7 @@ here=$(readlink -f -- "${BASH_SOURCE[0]}") || exit 2
 . "${here%/*}/functions.sh" || exit 2
 begin "$@" || exit 2
 read_words '-ibam: -strand: -bg -bga -d -5 -3 -split -ignoreD -du' "$@"
+all_of -ibam
 one_of -bg -bga -d
 twice "$opt_ibam"
 [ -z "${opt_5-}${opt_3-}" ] || one_of -5 -3

@@ -7,6 +7,7 @@ here=$(readlink -f -- "${BASH_SOURCE[0]}") || exit 2
 . "${here%/*}/functions.sh" || exit 2
 begin "$@" || exit 2
 read_words '-i: -g: -strand: -d -dz' "$@"
+all_of -i -g
 one_of -d -dz
 shape=-bga first=1
 [ -z "${opt_dz-}" ] || shape=-bg first=0

@@ -7,6 +7,7 @@ here=$(readlink -f -- "${BASH_SOURCE[0]}") || exit 2
 . "${here%/*}/functions.sh" || exit 2
 begin "$@" || exit 2
 read_words '-i: -g: -strand: -scale: -bg -bga' "$@"
+all_of -i -g -scale
 one_of -bg -bga
 bt genomecov -i "$opt_i" -g "$opt_g" ${opt_strand:+-strand "$opt_strand"} "-bg${opt_bga:+a}" |
     awk -F'\t' -v OFS='\t' -v scale="$opt_scale" "$single"'

@@ -7,6 +7,7 @@ here=$(readlink -f -- "${BASH_SOURCE[0]}") || exit 2
 . "${here%/*}/functions.sh" || exit 2
 begin "$@" || exit 2
 read_words '-i: -g: -strand: -bg -bga' "$@"
+all_of -i -g
 one_of -bg -bga
 twice "$opt_g"
 records "$opt_i" | awk -F'\t' -v OFS='\t' '

@@ -7,6 +7,7 @@ here=$(readlink -f -- "${BASH_SOURCE[0]}") || exit 2
 . "${here%/*}/functions.sh" || exit 2
 begin "$@" || exit 2
 read_words '-i: -g: -max: -strand:' "$@"
+all_of -i -g
 bt genomecov -i "$opt_i" -g "$opt_g" ${opt_strand:+-strand "$opt_strand"} -bga |
     awk -F'\t' -v OFS='\t' -v max="${opt_max:-0}" "$single"'
     function whole(x) { return sprintf("%.0f", x) }

@@ -8,6 +8,7 @@ here=$(readlink -f -- "${BASH_SOURCE[0]}") || exit 2
 . "${here%/*}/functions.sh" || exit 2
 begin "$@" || exit 2
 read_words '-a: -b: -f: -F: -e -s -sorted -wo -wa -wb -u -c -v' "$@"
+all_of -a -b
 [ -n "${opt_F-}" ] || fail '-F is missing'
 [ -z "${opt_u-}${opt_c-}${opt_v-}" ] || one_of -wo -u -c -v
 [ -z "${opt_wo-}" ] || one_of -wo -wa -wb

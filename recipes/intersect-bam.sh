@@ -8,6 +8,7 @@ here=$(readlink -f -- "${BASH_SOURCE[0]}") || exit 2
 . "${here%/*}/functions.sh" || exit 2
 begin "$@" || exit 2
 read_words '-a: -b: -f: -v -ubam -g:' "$@"
+all_of -a -b
 twice "$opt_a"
 work
 form=-b

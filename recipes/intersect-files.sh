@@ -16,6 +16,7 @@ for word; do
     esac
 done
 read_words '-a: -b: .. -f: -s -sorted -u -v -c -C -wa -wb -filenames' "${words[@]}"
+all_of -a -b
 if [ -z "${opt_wa-}" ] || [ -z "${opt_wb-}" ]; then one_of -u -v -c -C; fi
 rule=(${opt_f:+-f "$opt_f"} ${opt_s:+-s})
 for name in u v c; do

@@ -8,6 +8,7 @@ here=$(readlink -f -- "${BASH_SOURCE[0]}") || exit 2
 . "${here%/*}/functions.sh" || exit 2
 begin "$@" || exit 2
 read_words '-a: -b: -f: -r -s -sorted -loj -wao -plain' "$@"
+all_of -a -b
 one_of -loj -wao
 work
 records "$opt_b" > "$folder/b.bed"

@@ -7,6 +7,7 @@ here=$(readlink -f -- "${BASH_SOURCE[0]}") || exit 2
 . "${here%/*}/functions.sh" || exit 2
 begin "$@" || exit 2
 read_words '-a: -b: -f:' "$@"
+all_of -a -b
 carry "$opt_b" | swap_strands - |
     bt intersect -s -wa -wb ${opt_f:+-f "$opt_f"} -a "$opt_a" -b - |
     awk -F'\t' -v OFS='\t' '{

@@ -7,6 +7,7 @@ here=$(readlink -f -- "${BASH_SOURCE[0]}") || exit 2
 . "${here%/*}/functions.sh" || exit 2
 begin "$@" || exit 2
 read_words '-a: -b: -sorted -u -v' "$@"
+all_of -a -b
 one_of -u -v
 work
 # The blocks of standard input, each with the number of its record.

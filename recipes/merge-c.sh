@@ -8,6 +8,7 @@ here=$(readlink -f -- "${BASH_SOURCE[0]}") || exit 2
 . "${here%/*}/functions.sh" || exit 2
 begin "$@" || exit 2
 read_words '-i: -c: -o: -d: -delim: -prec:' "$@"
+all_of -i -c -o
 twice "$opt_i"
 # An operation that isn't one ends it before anything is run, whose messages would come too.
 for operation in ${opt_o//,/ }; do

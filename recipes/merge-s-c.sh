@@ -7,6 +7,7 @@ here=$(readlink -f -- "${BASH_SOURCE[0]}") || exit 2
 . "${here%/*}/functions.sh" || exit 2
 begin "$@" || exit 2
 read_words '-i: -d:' "$@"
+all_of -i
 work
 carry "$opt_i" | cut -f 1-6 > "$folder/numbered.bed"
 for strand in + -; do

@@ -7,6 +7,7 @@ here=$(readlink -f -- "${BASH_SOURCE[0]}") || exit 2
 . "${here%/*}/functions.sh" || exit 2
 begin "$@" || exit 2
 read_words '-a: -b: -f: -F: -r -e -A' "$@"
+all_of -a -b
 if [ -n "${opt_r-}${opt_A-}" ] && [ -z "${opt_F-}" ] && [ -n "${opt_A-}" ]; then
     bt intersect -v -a "$opt_a" -b "$opt_b" ${opt_f:+-f "$opt_f"} ${opt_r:+-r}
     exit

@@ -7,6 +7,7 @@ here=$(readlink -f -- "${BASH_SOURCE[0]}") || exit 2
 . "${here%/*}/functions.sh" || exit 2
 begin "$@" || exit 2
 read_words '-a: -b: -f:' "$@"
+all_of -a -b -f
 work
 records "$opt_a" > "$folder/a.bed"
 bt merge -i "$opt_b" > "$folder/b.bed"

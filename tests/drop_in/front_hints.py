@@ -7,10 +7,12 @@ import re
 import shutil
 import subprocess
 
-from front_tools import TOP, call, looking, shell
+from front_tools import TOP, call, drop_in, install, looking, shell
 from migrating import options
 
 MERGED = b"chr1\t2\t9\n"
+# What follows a message of Dunekettle through the drop-in.
+WHOSE = "dunekettle: the message is from Dunekettle, which ran this call instead of bedtools\n"
 FILES = {
     "f.bed": b"chr1\t2\t6\ta\t0\t+\nchr1\t4\t9\tb\t0\t-\n", "unsorted.bed": b"chr1\t9\t12\nchr1\t2\t6\n", "g.txt": b"chr1\t20\nchr2\t8\n",
     "vcf.vcf": b"##fileformat=VCFv4.2\n#CHROM\tPOS\tID\nchr1\t5\trs1\tA\tG\n", "numbers.vcf": b"##fileformat=VCFv4.2\nchr1\t5\t120\tA\tG\n",
@@ -88,6 +90,9 @@ HINTS = [
     ("merge -i f.bed f2.bed", None, "-i takes one file"),
     ("merge none.bed", None, "usage: dunekettle merge"),
     ("intersect -a f.bed -b f.bed f2.bed", None, "-b takes one file: intersect-files.sh (docs/RECIPES.md) takes several with -u, -v, -c, -C or -wa -wb; or bedtools"),
+    ("merge -i f.bed -c 5 -o first", None, "merge has no -c, and no script does this: bedtools has it"),
+    ("merge -s -i f.bed -c 4 -o collapse", None, "merge has no -c, and no script does this: bedtools has it"),
+    ("subtract -N -a f.bed -b f.bed", None, "subtract-N.sh (docs/RECIPES.md) does it"),
     ("subtract -a f.bed -b f.bed f2.bed", None, "-b takes one file"),
     ("merge -i f.bed -d x", None, "-d takes 0 to 999999999999"),
     ("merge -i f.bed -d -3", None, "for features that share at least 3 bases write: recipes/merge-overlap.sh 3 f.bed"),
@@ -106,6 +111,15 @@ HINTS = [
     ("version", None, "the commands: see dunekettle --help"),
     ("sort -i f.bed", None, "LC_ALL=C sort -k1,1 -k2,2n FILE"),
     ("closest -a f.bed -b f.bed", None, "only bedtools has closest; the drop-in"),
+]
+# Calls whose hint is a line of a script that is installed, and what that line writes.
+PASTED = [
+    ("merge -i f.bed -c 5,4 -o sum,collapse", b"chr1\t2\t9\t0\ta,b\n"),
+    ("merge -s -i f.bed -c 6,4 -o distinct,count", b"chr1\t2\t6\t+\t1\nchr1\t4\t9\t-\t1\n"),
+    ("merge -i f.bed -d -1", b"chr1\t2\t9\n"),
+    ("intersect -a bare.bed -b f.bed -wao", b"1\t2\t6\t.\t-1\t-1\t.\t-1\t.\t0\n"),
+    ("intersect -u -a bare.bed -b f.bed bare.bed", b"1\t2\t6\n"),
+    ("subtract -N -f 0.5 -a bare.bed -b f.bed", b"1\t2\t6\n"),
 ]
 
 
@@ -156,11 +170,21 @@ def try_options(front, folder, count):
     count.expect("options of options.tsv", True, len(rows) > 50)
 
 
-def at_terminal(words, folder):
+def try_pasted(folder, count):
+    """A line to paste does what the call was to do, also if the program isn't on PATH."""
+    place = install(folder.parent / "with recipes")
+    shutil.copytree(TOP / "recipes", place / "share" / "dunekettle" / "recipes")
+    for line, wanted in PASTED:
+        said = call([place / "bin" / "dunekettle", *line.split()], folder, looking())[1].splitlines()[-1]
+        script = re.split(r"[Ww]rite: ", said)[-1]
+        count.expect(f"the line for {line}: {script}", (wanted, "", 0), shell(script, folder, looking()))
+
+
+def at_terminal(words, folder, *first):
     """What a command says on a terminal that is its standard input too, at whose end it is at once."""
     ours, theirs = pty.openpty()
     os.write(ours, b"\x04")
-    with subprocess.Popen(words, cwd=folder, env=looking(), stdin=theirs, stdout=subprocess.DEVNULL, stderr=theirs) as child:
+    with subprocess.Popen(words, cwd=folder, env=looking(*first), stdin=theirs, stdout=subprocess.DEVNULL, stderr=theirs) as child:
         os.close(theirs)
         said = b""
         try:
@@ -179,6 +203,32 @@ def try_terminal(place, folder, count):
     for line, status, waits in lines:
         said, found = at_terminal([place / "bin" / "dunekettle", *line.split()], folder)
         count.expect(f"at a terminal: {line}", (status, waits), (found, "waits for lines from the terminal" in said))
+
+
+    # bedtools shows its help there, and so it does through the drop-in.
+    for line, shows in (("merge", True), ("merge -d 5", True), ("merge -i -", False), ("merge -i f.bed", False)):
+        (folder.parent / "helps").mkdir(exist_ok=True)
+        (folder.parent / "helps" / "bedtools").write_text("#!/bin/sh\necho help >&2\n# bedtools v2.30.0\n", encoding="utf-8")
+        (folder.parent / "helps" / "bedtools").chmod(0o755)
+        said, found = at_terminal([drop_in(place) / "bedtools", *line.split()], folder, folder.parent / "helps")
+        count.expect(f"the drop-in at a terminal: {line}", ("help\r\n" if shows else "", 0), (said, found))
+
+
+def try_warnings(place, folder, count):
+    """One line says that names begin with chr in one of two files alone; it changes neither output nor status."""
+    front = place / "bin" / "dunekettle"
+    odd = {"none.txt": b"", "heads.bed": b"#chr\n\r\ntrack x\nbrowser\n1\t2\t6", "upper.bed": b"CHR1\t2\t6\n", "other.bed": b"X\t2\t6\n", "red.bed": b"\x1b[31m\t2\t6\n"}
+    for name, text in odd.items():
+        (folder / name).write_bytes(text)
+    for line, warns in (("intersect -a f.bed -b bare.bed", True), ("intersect -a bare.bed -b f.bed -v", True), ("subtract -a f.bed -b bare.bed", True), ("intersect -sorted -a f.bed -b heads.bed", True),
+                        ("intersect -u -a f.bed -b red.bed", True), ("intersect -a f.bed -b f2.bed", False), ("intersect -a f.bed -b none.txt", False), ("intersect -a f.bed -b upper.bed", False),
+                        ("intersect -a bare.bed -b other.bed", False), ("intersect -a f.bed -b -", False), ("intersect -a f.bed -b f.bed -g g.txt", False)):
+        output, said, status = call([front, *line.split()], folder, looking(), input=FILES["bare.bed"])
+        lines = said.splitlines()
+        count.expect(f"a warning of {line}", (1 if warns else 0, 0), (len(lines), status))
+        count.expect(f"its words of {line}", warns, any(text.startswith("dunekettle: warning: ") and "names are compared byte for byte" in text and text.isprintable() for text in lines))
+        plain = call([front, *line.split()], folder, looking(DUNEKETTLE_HINTS="0"), input=FILES["bare.bed"])
+        count.expect(f"no warning of {line}", (output, "", 0), plain)
 
 
 def try_help(place, folder, count):

@@ -21,7 +21,7 @@ import time
 from pathlib import Path
 
 from front_faults import try_faults
-from front_hints import FILES, MERGED, fill, try_help, try_hints, try_names, try_terminal
+from front_hints import FILES, MERGED, WHOSE, fill, try_help, try_hints, try_names, try_pasted, try_terminal, try_warnings
 from front_tools import TOP, Count, PROGRAM, call, drop_in, install, is_busy, looking, original, shell, tools_alone
 from tests.pages.test_examples import examples_of
 
@@ -39,16 +39,17 @@ def try_originals(place, folder, count):
     install(other)
     paths = {"none": [], "links": [links], "copies": [copies], "programs": [programs], "another place": [drop_in(other)],
              "all": [drop_in(place), links, copies, programs, drop_in(other), links]}
+    alone = WHOSE.replace(", which ran this call instead of bedtools", ": there is no other bedtools on PATH")
     for name, folders in paths.items():
         env = {**looking(), "PATH": os.pathsep.join(map(str, [drop_in(place), *folders, tools]))}
         count.expect(f"original {name}: merge", (MERGED, "", 0), call(["bedtools", "merge", "-i", "f.bed"], folder, env))
-        count.expect(f"original {name}: sort", (b"", "bedtools: no or unknown command\n", 2), call(["bedtools", "sort", "-i", "f.bed"], folder, env))
-        count.expect(f"original {name}: -c", (b"", "bedtools: unknown option: -c\n", 2), call(["mergeBed", "-i", "f.bed", "-c", "1"], folder, env))
-        # What may be another answer than that of bedtools isn't taken silently; a fault says so by itself.
+        count.expect(f"original {name}: sort", (b"", "bedtools: no or unknown command\n" + alone, 2), call(["bedtools", "sort", "-i", "f.bed"], folder, env))
+        count.expect(f"original {name}: -c", (b"", "bedtools: unknown option: -c\n" + alone, 2), call(["mergeBed", "-i", "f.bed", "-c", "1"], folder, env))
+        # What may be another answer than that of bedtools isn't taken silently, and a fault tells whose it is.
         doubt = "dunekettle: there is no other bedtools on PATH, and Dunekettle may write something else: crlf.bed has a blank line, CR CR, or a header line of VCF\n"
         count.expect(f"original {name}: a blank line", (b"chr1\t2\t6\n", doubt, 0), call(["bedtools", "merge", "-i", "crlf.bed"], folder, env))
         count.expect(f"original {name}: a blank line, to a pipe", (b"chr1\t2\t6\n", doubt, 0), shell("bedtools merge -i crlf.bed | cat", folder, env))
-        count.expect(f"original {name}: a fault", (b"", "bedtools merge: no_base.bed:1: start is not below end\n", 1), call(["bedtools", "merge", "-i", "no_base.bed"], folder, env))
+        count.expect(f"original {name}: a fault", (b"", "bedtools merge: no_base.bed:1: start is not below end\n" + alone, 1), call(["bedtools", "merge", "-i", "no_base.bed"], folder, env))
         output, _, status = call(["bedtools", "--version"], folder, env)
         count.expect(f"original {name}: --version", (True, 0), (output.startswith(b"bedtools v2.30.0 (Dunekettle ") and b"without bedtools" in output, status))
         for words in (["--help"], ["merge", "-h"], []):
@@ -61,7 +62,7 @@ def try_originals(place, folder, count):
         (top / name / "bedtools").chmod(0o755)
     for name, folders in (("again", ["again"]), ("child", ["child"]), ("both", ["again", "child"]), ("both, changed", ["child", "again"])):
         env = {**looking(), "PATH": os.pathsep.join(map(str, [drop_in(place), *(top / f for f in folders), tools]))}
-        count.expect(f"wrapper {name}", (b"", "bedtools: no or unknown command\n", 2), call(["bedtools", "sort"], folder, env))
+        count.expect(f"wrapper {name}", (b"", "bedtools: no or unknown command\n" + alone, 2), call(["bedtools", "sort"], folder, env))
         env["PATH"] += os.pathsep + str(top / "says")
         count.expect(f"wrapper {name}, then an original", (b"sort\0", "", 7), call(["bedtools", "sort"], folder, env))
     env = {**looking(), "PATH": os.pathsep.join(map(str, [drop_in(place), top / "says", tools]))}
@@ -211,7 +212,7 @@ def try_streams(place, folder, count):
             count.expect(f"bedtools {line} {streams}, always", wanted, always)
             if line == "merge -i f.bed":
                 judged = shell(f"bedtools {line} {streams}", folder, alone, input=FILES["f.bed"])
-                count.expect(f"bedtools {line} {streams}", wanted, judged)
+                count.expect(f"bedtools {line} {streams}", (wanted[0], wanted[1] and wanted[1] + WHOSE, wanted[2]), judged)
     # A stream is copied and looked at, unless DUNEKETTLE_STREAMS says that it is sorted BED. A device isn't copied.
     known = ("intersect -sorted -a - -b f.bed -u -g g.txt", "complement -i - -g g.txt", "intersect -g g.txt -sorted -u -a f.bed -b /dev/stdin", "merge -i -", "merge",
              "complement -i stdin -g g.txt", "intersect -a - -b f.bed -u", "intersect -sorted -a - -b f.bed -u", "genomecov -bg -i - -g g.txt", "subtract -a f.bed -b /dev/fd/0",
@@ -368,7 +369,7 @@ def try_failed_writes(place, folder, count):
             command, line = line.split()[0], f"bedtools {line}"
             for script in (f"{line} > /dev/full", f"{line} >&-", f"trap '' PIPE; {line} | true; exit ${{PIPESTATUS[0]}}"):
                 found = call(["bash", "-c", script], folder, env)
-                count.expect(f"{name}: {script}", (b"", f"bedtools {command}: writing failed\n", 1), found)
+                count.expect(f"{name}: {script}", (b"", f"bedtools {command}: writing failed\n{WHOSE}", 1), found)
 
 
 def try_report(place, folder, count):
@@ -415,7 +416,7 @@ def try_rest(place, folder, count):
     (top / "spoils" / "awk").chmod(0o755)
     (folder / "changes.bed").write_bytes(FILES["f.bed"])
     found = call([place / "lib" / "dunekettle" / "script" / "bedtools", "merge", "-i", "changes.bed"], folder, looking(drop_in(place), top / "spoils"))
-    count.expect("a file that changes", (b"", "bedtools merge: changes.bed:2: record is out of order\n", 1), found)
+    count.expect("a file that changes", (b"", "bedtools merge: changes.bed:2: record is out of order\n" + WHOSE, 1), found)
     try_a_change(place, folder, count)
     for name, there in (("missing", top / "nowhere"), ("a file", folder / "f.bed")):
         found = call([place / "bin" / "dunekettle", "merge", "-i", "unsorted.bed"], folder, looking(TMPDIR=str(there)))
@@ -463,7 +464,7 @@ def try_a_change(place, folder, count):
                 file.write(b"chr1\t2000000")
             output, said = child.communicate()
         # It may have changed before the first look was there, or after the second reading.
-        changed = said == b"bedtools merge: grows.bed:10: record is out of order\n"
+        changed = said == b"bedtools merge: grows.bed:10: record is out of order\n" + WHOSE.encode()
         count.expect("a file that changes in the look", True, not changed or (output, child.returncode) == (b"", 1))
         if changed:
             break
@@ -582,7 +583,9 @@ def main():
         folder.mkdir()
         fill(folder)
         try_hints(place, folder, count)
+        try_pasted(folder, count)
         try_terminal(place, folder, count)
+        try_warnings(place, folder, count)
         try_help(place, folder, count)
         try_originals(place, folder, count)
         try_versions(place, folder, count)

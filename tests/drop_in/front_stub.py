@@ -26,6 +26,8 @@ STUB = TOP / "front" / "bedtools"
 PIPES = (["dash"], ["bash", "--posix"], ["bash"], ["busybox", "sh"])
 FILES = (["mksh"], ["ksh"], ["yash"], ["zsh", "--emulate", "sh"])
 SIGNALS = (signal.SIGHUP, signal.SIGINT, signal.SIGQUIT, signal.SIGTERM)
+# What follows a message of the program.
+WHOSE = "dunekettle: the message is from Dunekettle, which ran this call instead of bedtools\n"
 WORDS = ["merge", "-i", "a b", "", "line\nfeed", "*", "\\", "'\"$(x)", "-"]
 BYTES = b"".join(b"chr1\t%d\t%d\n" % (n, n + 9) for n in range(30_000))
 # The program: PLAY is a script of sh, in which `tell` writes a line and `feed` what comes from standard input.
@@ -113,7 +115,7 @@ class Stub(unittest.TestCase):
         for shell in known(PIPES):
             for status in (0, 1, 2, 120, 127, 128):
                 found = self.run_stub(shell, f"tell d; cat; echo fault >&2; exit {status}", given=BYTES)
-                self.assertEqual(found, (BYTES, "fault\n", status), shell)
+                self.assertEqual(found, (BYTES, "fault\n" + (WHOSE if status == 1 else ""), status), shell)
             for play in ("tell d", "tell r; tell d"):
                 found = self.run_stub(shell, play + r"; printf '%s\0' "+'"$@"', WORDS)
                 self.assertEqual(found[0], "".join(f"{word}\0" for word in WORDS).encode(), shell)
@@ -247,7 +249,7 @@ class Stub(unittest.TestCase):
             env = environment(PLAY="tell d; exit 121", OTHER=str(self.other))
             self.assertEqual(call([*shell, self.stub, "merge"], self.top, env), (b"", "", -signal.SIGPIPE), shell)
             found = call(["bash", "-c", f"trap '' PIPE; {program} merge"], self.top, env)
-            self.assertEqual(found, (b"", "bedtools merge: writing failed\n", 1), shell)
+            self.assertEqual(found, (b"", "bedtools merge: writing failed\n" + WHOSE, 1), shell)
             found = call(["bash", "-c", f"yes | {program} merge | head -n 1 > /dev/null; echo ${{PIPESTATUS[1]}}"], self.top, {**env, "PLAY": 'tell r; tell "s 0 $OTHER"; feed', "SAYS": "exec cat"})
             self.assertEqual(found, (b"141\n", "", 0), shell)
 
