@@ -3,6 +3,7 @@
 The pages are the Markdown files of this repository. Links to other hosts aren't followed.
 """
 
+import itertools
 import re
 
 from tests.support import TOP, Counted
@@ -35,6 +36,9 @@ WITH_PATHS = [TOP / "docs" / "ARCHITECTURE.md", TOP / "docs" / "PROVED.md", *sor
 # A row of ARCHITECTURE.md on the modules of a folder: the crate, or none for that of the row above, the folder and its
 # modules.
 MODULES = re.compile(r"^\| (?:`(\w+)`)? ?\| (?:`(\w+)`)? ?\| ((?:`\w+`(?:, )?)+)( and others)? \|", re.MULTILINE)
+
+# Comments at the head of a script that don't say what it does.
+OTHER_HEADS = re.compile(r"# (?:shellcheck|SPDX)")
 
 # Where the version stands: the first match of each is it.
 VERSIONS = {
@@ -208,15 +212,14 @@ def other_modules():
             yield f"{ARCHITECTURE}: {crate}/src/{name} has other modules: {', '.join(sorted(differ))}"
 
 
-def front_differs():
-    """The files of front/ that ARCHITECTURE.md doesn't list, and those of its list that front/ doesn't have."""
-    part = read(ARCHITECTURE).partition("in `front/`")[2].partition("\n## ")[0]
-    said = set(re.findall(r"`([\w.]+)`", part))
-    files = {file.name for file in (TOP / "front").iterdir()}
-    lost = sorted(name for name in said if name.endswith((".sh", ".awk", ".txt")) and name not in files)
-    unsaid = sorted(name for name in files if not {name, name.removesuffix(".awk")} & said)
-    yield from (f"{ARCHITECTURE}: there is no front/{name}" for name in lost)
-    yield from (f"{ARCHITECTURE}: says nothing of front/{name}" for name in unsaid)
+def without_a_head():
+    """The files of front/ whose first lines have no comment that says what they do: before any code, and besides the
+    shell's line, the licence and what shellcheck reads."""
+    for file in sorted((TOP / "front").iterdir()):
+        lines = file.read_text(encoding="utf-8").splitlines()
+        head = itertools.takewhile(lambda line: line.startswith(("#", "{ #")), lines)
+        if not any(line.startswith("# ") and not OTHER_HEADS.match(line) for line in head):
+            yield f"front/{file.name} doesn't say at its head what it does"
 
 
 def said_by_front():
@@ -326,8 +329,8 @@ class Links(Counted):
     def test_modules_are_listed(self):
         self.expect_none(other_modules())
 
-    def test_files_of_the_front_are_listed(self):
-        self.expect_none(front_differs())
+    def test_files_of_the_front_say_what_they_do(self):
+        self.expect_none(without_a_head())
 
     def test_model_imports_nothing_else(self):
         self.expect_none(strays())
