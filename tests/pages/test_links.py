@@ -69,10 +69,10 @@ WHERE = [*PAGES, *(file for pattern in OTHERS for file in sorted(TOP.glob(patter
 SAME = {
     "how much of a stream is copied": {
         "front/*.sh": r"DUNEKETTLE_ROOM:-(\d+)", "docs/MIGRATING.md": r"DUNEKETTLE_ROOM=BYTES`[^\n]*?: ([\d,]+)",
-        "man/dunekettle.1": r"copies to look at it: (\d+)"},
+        "man/dunekettle.1": r"keeps for its check: (\d+)"},
     "which inputs are small": {
         "front/*.sh": r"DUNEKETTLE_SMALL:-(\d+)", "docs/MIGRATING.md": r"DUNEKETTLE_SMALL=BYTES`[^\n]*?: ([\d,]+)",
-        "man/dunekettle.1": r"without a look: (\d+)"},
+        "man/dunekettle.1": r"of some calls need: (\d+)"},
     "how long many reads that overlap took": {
         "CHANGELOG.md": r"on 30,000 bases took (\S+ s), and take (\S+ s)",
         "bench/HISTORY.md": r"on 30,000 bases\* (\S+ s) to (\S+ s)"},
