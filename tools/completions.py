@@ -28,9 +28,10 @@ VARIABLES = {
     "DUNEKETTLE_ALWAYS=1": "the drop-in never runs your bedtools",
     "DUNEKETTLE_STREAMS=1": "the drop-in takes standard input and pipes for sorted BED, without lines that bedtools"
                             " treats differently",
-    "DUNEKETTLE_ROOM=0": "the drop-in keeps and copies no stream; a number of bytes instead of 0 is how much of one it does",
-    "DUNEKETTLE_SMALL=0": "the drop-in looks at the smallest inputs of all calls; a number of bytes instead of 0 is from"
-                          " which size on",
+    "DUNEKETTLE_ROOM=0": "the drop-in leaves all pipes and .gz files to your bedtools; a number instead of 0 is how many"
+                         " bytes of one it keeps to check it",
+    "DUNEKETTLE_SMALL=0": "the drop-in checks inputs of any size; a number of bytes instead of 0 scales the size from"
+                          " which on it checks some calls",
 }
 
 
@@ -80,9 +81,9 @@ def sentence(text):
 def check_help():
     """The help of `check`."""
     lines = ["dunekettle check FILE.. [-g GENOME] [--json]", "",
-             *wrapped("", ("Says of each file of what kind it is, by which order it is sorted, and what it has: header "
-                           "lines, blank lines, CR LF, records without a strand; then which names the files don't "
-                           "share. Status 0 if the seven commands can take them all, else 1.").split()), ""]
+             *wrapped("", ("Says what kind each file is, how it is sorted, and what it has: header lines, blank lines, "
+                           "CR LF, records without a strand. Then it lists the names that some of the files lack. The "
+                           "status is 0 if the seven commands can take all of the files, and 1 if not.").split()), ""]
     for option in [*CHECK, CHECK_END]:
         lines += wrapped(f"  {option.shown():<15}", option.does.split())
     return lines
@@ -92,8 +93,8 @@ def report_help():
     """The help of `report`."""
     return ["dunekettle report FILE", "",
             *wrapped("", ("Reads the file that DUNEKETTLE_TELL names, which has a line for each call of the drop-in, "
-                          "and says how many calls there were, how many of them Dunekettle took, and why not the "
-                          "others. Status 1 if it has no call.").split())]
+                          "and says how many calls there were, how many of them Dunekettle took, and why bedtools "
+                          "took the others. The status is 1 if the file has no call.").split())]
 
 
 def help_text(known):

@@ -106,7 +106,7 @@ def hint_of(advice):
     """What a hint says instead of an option: the scripts that replace it, or to leave it out, or nothing; and the
     options of which the scripts need one."""
     scripts = [] if advice.startswith("none") else re.findall(r"`([\w-]+\.sh)`", advice)
-    needed = re.search(r"(?:for|beside) (.*); else none$", advice)
+    needed = re.search(r"(?:for|with) (.*); otherwise none$", advice)
     words = " ".join(re.findall(r"`(-\w+)`", needed[1])) if needed else ""
     return f"{' '.join(dict.fromkeys(scripts)) or (advice if advice.startswith('leave') else '')}\t{words}"
 

@@ -38,7 +38,7 @@ NOTES = {
     "bt_front": "surveys, the verdict",
     "bt_laws": "laws",
     "bt_files": "files, a plan carried out, messages",
-    "bedtools": "the program: words, main",
+    "bedtools": "the program: main",
     "drop_in": "the program of the drop-in",
 }
 
@@ -112,13 +112,13 @@ def draw_crates():
     return picture(2 * middle, top + 14, parts)
 
 
-LEGEND = (("proved", "proved, for all words and all bytes"), ("tested", "tested: the program hands over bytes"),
+LEGEND = (("proved", "proved, for all arguments and all bytes"), ("tested", "tested: the program hands over bytes"),
           ("box", "trusted: the system"))
 PROMISES = ("If nothing fails, output, message and status are those of a written definition.",
             "If a read, a write or memory fails, what was written is a prefix of the correct output.")
 # The boxes of a run: left, top, width, text, kind and height.
 BOXES = (
-    (20, 45, 130, ["words", "of the command line"]),
+    (20, 45, 130, ["arguments", "of the command line"]),
     (20, 135, 130, ["genome file"]),
     (20, 190, 130, ["first input"]),
     (20, 245, 130, ["second input"]),

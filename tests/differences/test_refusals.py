@@ -22,7 +22,7 @@ ELSEWHERE = {
     "exit statuses": "words",
     "name of a file that isn't UTF-8": "words",
     "help": "words",
-    "`-s` beside `-S`": "words",
+    "`-s` with `-S`": "words",
     "negative `-d`": "words",
     "fraction with an exponent": "words",
     "two kinds of output at once": "words",

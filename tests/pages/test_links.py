@@ -3,6 +3,7 @@
 The pages are the Markdown files of this repository. Links to other hosts aren't followed.
 """
 
+import itertools
 import re
 
 from tests.support import TOP, Counted
@@ -36,6 +37,9 @@ WITH_PATHS = [TOP / "docs" / "ARCHITECTURE.md", TOP / "docs" / "PROVED.md", *sor
 # modules.
 MODULES = re.compile(r"^\| (?:`(\w+)`)? ?\| (?:`(\w+)`)? ?\| ((?:`\w+`(?:, )?)+)( and others)? \|", re.MULTILINE)
 
+# Comments at the head of a script that don't say what it does.
+OTHER_HEADS = re.compile(r"# (?:shellcheck|SPDX)")
+
 # Where the version stands: the first match of each is it.
 VERSIONS = {
     "README.md": r"version (\d+\.\d+\.\d+)",
@@ -65,10 +69,10 @@ WHERE = [*PAGES, *(file for pattern in OTHERS for file in sorted(TOP.glob(patter
 SAME = {
     "how much of a stream is copied": {
         "front/*.sh": r"DUNEKETTLE_ROOM:-(\d+)", "docs/MIGRATING.md": r"DUNEKETTLE_ROOM=BYTES`[^\n]*?: ([\d,]+)",
-        "man/dunekettle.1": r"copies to look at it: (\d+)"},
+        "man/dunekettle.1": r"keeps for its check: (\d+)"},
     "which inputs are small": {
         "front/*.sh": r"DUNEKETTLE_SMALL:-(\d+)", "docs/MIGRATING.md": r"DUNEKETTLE_SMALL=BYTES`[^\n]*?: ([\d,]+)",
-        "man/dunekettle.1": r"without a look: (\d+)"},
+        "man/dunekettle.1": r"of some calls need: (\d+)"},
     "how long many reads that overlap took": {
         "CHANGELOG.md": r"on 30,000 bases took (\S+ s), and take (\S+ s)",
         "bench/HISTORY.md": r"on 30,000 bases\* (\S+ s) to (\S+ s)"},
@@ -208,15 +212,14 @@ def other_modules():
             yield f"{ARCHITECTURE}: {crate}/src/{name} has other modules: {', '.join(sorted(differ))}"
 
 
-def front_differs():
-    """The files of front/ that ARCHITECTURE.md doesn't list, and those of its list that front/ doesn't have."""
-    part = read(ARCHITECTURE).partition("in `front/`")[2].partition("\n## ")[0]
-    said = set(re.findall(r"`([\w.]+)`", part))
-    files = {file.name for file in (TOP / "front").iterdir()}
-    lost = sorted(name for name in said if name.endswith((".sh", ".awk", ".txt")) and name not in files)
-    unsaid = sorted(name for name in files if not {name, name.removesuffix(".awk")} & said)
-    yield from (f"{ARCHITECTURE}: there is no front/{name}" for name in lost)
-    yield from (f"{ARCHITECTURE}: says nothing of front/{name}" for name in unsaid)
+def without_a_head():
+    """The files of front/ whose first lines have no comment that says what they do: before any code, and besides the
+    shell's line, the licence and what shellcheck reads."""
+    for file in sorted((TOP / "front").iterdir()):
+        lines = file.read_text(encoding="utf-8").splitlines()
+        head = itertools.takewhile(lambda line: line.startswith(("#", "{ #")), lines)
+        if not any(line.startswith("# ") and not OTHER_HEADS.match(line) for line in head):
+            yield f"front/{file.name} doesn't say at its head what it does"
 
 
 def said_by_front():
@@ -326,8 +329,8 @@ class Links(Counted):
     def test_modules_are_listed(self):
         self.expect_none(other_modules())
 
-    def test_files_of_the_front_are_listed(self):
-        self.expect_none(front_differs())
+    def test_files_of_the_front_say_what_they_do(self):
+        self.expect_none(without_a_head())
 
     def test_model_imports_nothing_else(self):
         self.expect_none(strays())
