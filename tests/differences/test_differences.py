@@ -108,6 +108,10 @@ class Differences(BesideOriginal):
         self.counts["trials"] += 1
 
 
+# What the drop-in says after a message of Dunekettle
+WHOSE = "dunekettle: the message is from Dunekettle, which ran this call instead of bedtools\n"
+
+
 @each([Named(trial.row, trial) for trial in TRIALS])
 class WithDropIn(BesideOriginal):
     said = "{trials} trials with the drop-in"
@@ -131,7 +135,8 @@ class WithDropIn(BesideOriginal):
         is_as_theirs = (output, status) == (trial.theirs.output, trial.theirs.status)
         # Where the command lines are others, ours isn't what Dunekettle answers to theirs. A form of bedtools is its
         # answer.
-        is_as_ours = (output, error, status) == (trial.ours.output, trial.ours.error, trial.ours.status)
+        message = trial.ours.error and trial.ours.error + WHOSE
+        is_as_ours = (output, error, status) == (trial.ours.output, message, trial.ours.status)
         is_other = trial.theirs.command != trial.ours.command
         is_theirs = takers == {"bedtools"} and is_as_theirs
         is_ours = takers == {"Dunekettle"} and (is_other or is_as_ours or is_as_theirs)
