@@ -2,7 +2,7 @@
 """Tries pipelines as people have them, unchanged, with the drop-in first on PATH and without it.
 
     tests/drop_in/front.py [WORD..]     runs the scripts of pipelines/ whose names have one of these words, or all
-    tests/drop_in/front.py --write      writes front_pipelines.tsv, the table of MIGRATING.md and the line of README
+    tests/drop_in/front.py --write      writes front_pipelines.tsv, the table of bench/DROP_IN.md and the line of README
 
 The 45 scripts of pipelines/ run over files that front_data.py makes; so do 27 calls of pybedtools, a rule of
 Snakemake, a module as nf-core has them, and a Makefile. Both runs have to write the same bytes and to end with the same
@@ -33,7 +33,7 @@ WHY = re.compile(r"^dunekettle: (.*?) takes (\w*): (.*)", re.MULTILINE)
 TAKEN, LEFT, LONGER, SECONDS = 0.85, 0.25, 1.1, 0.02
 # A script under so many seconds runs so many times: the least counts.
 SHORT, RUNS = 3, 3
-# The table of the scripts in MIGRATING.md.
+# The table of the scripts in bench/DROP_IN.md.
 TABLE = re.compile(r"(<!-- a script writes: pipelines -->\n).*?(<!-- it ends here -->)", re.DOTALL)
 GAIN = re.compile(r"(<!-- a script writes: gain -->\n).*?(<!-- it ends here -->)", re.DOTALL)
 # The file of all rows, its columns, and how many of those that gain and lose most are on the page.
@@ -156,8 +156,8 @@ def goals_missed(rows):
 
 
 def write_table(rows):
-    """Puts all rows into front_pipelines.tsv, into MIGRATING.md their sum and those that gain and lose most, into README the sum."""
-    page = TOP / "docs" / "MIGRATING.md"
+    """Puts all rows into front_pipelines.tsv, into bench/DROP_IN.md their sum and those that gain and lose most, into README the sum."""
+    page = TOP / "bench" / "DROP_IN.md"
     shown = [(name[3:].replace("-", " "), *map(str, counts), f"{before:.2f}", f"{after:.2f}") for name, *counts, before, after in rows]
     (HERE / ROWS).write_text("".join("\t".join(row) + "\n" for row in [COLUMNS, *shown]), encoding="utf-8")
     by_gain = sorted(shown, key=lambda row: float(row[-1]) - float(row[-2]))
@@ -167,7 +167,7 @@ def write_table(rows):
     page.write_text(TABLE.sub(lambda found: found[1] + "\n".join(["", *lines, "", ""]) + found[2], text), encoding="utf-8")
     first = TOP / "README.md"
     calls, taken, _, _, before, after = sums(rows)
-    gain = (f"**With the drop-in**, [{len(rows)} pipelines](docs/MIGRATING.md#what-was-tried) took {after:.0f} seconds of CPU time instead of {before:.0f}, "
+    gain = (f"**With the drop-in**, [{len(rows)} pipelines](bench/DROP_IN.md#what-was-tried) took {after:.0f} seconds of CPU time instead of {before:.0f}, "
             f"without a change. Dunekettle ran {taken} of their {calls} calls.\n")
     first.write_text(GAIN.sub(lambda found: found[1] + gain + found[2], first.read_text(encoding="utf-8")), encoding="utf-8")
 

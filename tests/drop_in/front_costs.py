@@ -6,7 +6,7 @@
 The files are made here: 800,000 reads as BED, SAM and BAM on a genome of 360,000,000 bases, exons, transcripts and
 sequences, and small ones. For each call it shows who took it and the seconds of both, of the processor and by the
 clock, the less of two runs, and compares the bytes. With words it tries the calls that have one of them. Without
-words --write puts all rows into front_costs.tsv and some into MIGRATING.md. Ends with 1 if bytes differ, or if a call
+words --write puts all rows into front_costs.tsv and some into bench/DROP_IN.md. Ends with 1 if bytes differ, or if a call
 that Dunekettle takes needs over a tenth more of the processor than bedtools.
 """
 
@@ -22,7 +22,7 @@ from pathlib import Path
 
 from front_tools import TOLD, TOP, drop_in, environment, install, original
 
-# The table of MIGRATING.md.
+# The table of bench/DROP_IN.md.
 TABLE = re.compile(r"(<!-- a script writes: costs -->\n).*?(<!-- it ends here -->)", re.DOTALL)
 COLUMNS = ("call", "run by", "bedtools, CPU s", "drop-in, CPU s", "bedtools, wall-clock s", "drop-in, wall-clock s")
 # The file of all rows, and the calls whose rows are on the page.
@@ -173,9 +173,9 @@ def as_row(cells):
 
 
 def write_table(rows):
-    """Puts all rows into front_costs.tsv, and those of SHOWN into MIGRATING.md."""
+    """Puts all rows into front_costs.tsv, and those of SHOWN into bench/DROP_IN.md."""
     ROWS.write_text("".join("\t".join(row) + "\n" for row in [COLUMNS, *rows]), encoding="utf-8")
-    page = TOP / "docs" / "MIGRATING.md"
+    page = TOP / "bench" / "DROP_IN.md"
     lines = [f"| {' | '.join(COLUMNS)} |", f"|{'---|' * len(COLUMNS)}", *(as_row(row) for row in rows if row[0] in SHOWN)]
     text = page.read_text(encoding="utf-8")
     page.write_text(TABLE.sub(lambda found: found[1] + "".join(f"{line}\n" for line in lines) + found[2], text), encoding="utf-8")
