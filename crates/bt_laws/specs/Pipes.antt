@@ -3,7 +3,7 @@ use Rattle.std.specs.Prelude.{◌≡◌, ℕ, ◌<◌, ◌≤◌, Bool, not, Lis
 use Rattle.bt_lines.specs.model.Lines.{whole_text, Handed}
 use Rattle.bt_lines.specs.declared.fault.Input.{Input}
 use Rattle.bt_bed.specs.model.Feature.{Feature, Interval, intervals_of}
-use Rattle.bt_bed.specs.model.BedLine.{is_header, bed_text, cut_to, strand_named, strand_of, interval_lines, kept_columns, fault_at_line}
+use Rattle.bt_bed.specs.model.BedLine.{says_nothing, bed_text, cut_to, strand_named, strand_of, interval_lines, kept_columns, fault_at_line}
 use Rattle.bt_bed.specs.calls.Features.{columns_in}
 use Rattle.bt_bed.specs.model.Good.{items_in, bed_good, Good, good_handed}
 use Rattle.bt_bed.specs.model.Order.{Order, byte_order}
@@ -67,7 +67,7 @@ four_columns r = record {
 -- whether a record's line isn't skipped as a header: the name of a chromosome in a genome file may
 -- begin with the word `track` or `browser`, and a line of a BED file that does so says nothing
 abbrev pub is_no_header : Feature → Bool
-is_no_header r = not (is_header r.chrom)
+is_no_header r = not (says_nothing r.chrom)
 
 -- What the lines of intersect and subtract are read as: records of the first input, whole or cut, and what follows them.
 

@@ -1,7 +1,7 @@
 -- The same bytes by another way.
 use Rattle.std.specs.Prelude.{◌≡◌, ◌≢◌, ◌==◌, ℕ, Bool, true, false, List, ◌∷◌, ◌++◌, Option, None, map, filter, nat_lt, IsPermutation, ◌≤◌, Some, [], flat_map, cond, min, decimal, replicate, ◌<◌, ◌||◌, ⊤, length, bytes_eq, codes}
 use Rattle.bt_bed.specs.model.Feature.{Feature, Interval, record_covers}
-use Rattle.bt_bed.specs.model.BedLine.{interval_lines, is_header, bed_text}
+use Rattle.bt_bed.specs.model.BedLine.{interval_lines, says_nothing, bed_text}
 use Rattle.bt_bed.specs.model.Genome.{Entry}
 use Rattle.bt_bed.specs.declared.record.strand.Strand.{Strand}
 use Rattle.bt_runs.specs.model.Depth.{DepthInterval, coverage, depth_lines}
@@ -171,7 +171,7 @@ abbrev pub complement_of_complement : Type 0
 complement_of_complement =
     (inputs : Inputs) (entries : List Entry)
     → RunsWithoutFault (Complement false) inputs (Some entries)
-    → AllByRecursion (λ entry. is_header entry.name ≡ false) entries
+    → AllByRecursion (λ entry. says_nothing entry.name ≡ false) entries
     → let runs = ordered_runs (order_in_use (Some entries)) 0 All (first_records (Some entries) inputs) in
     RunWrites (Merge 0 All) inputs (interval_lines runs)
     × RunWrites (Complement false) (piped (Complement false) inputs)
