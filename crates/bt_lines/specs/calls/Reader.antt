@@ -218,13 +218,10 @@ module _ {S : Type 0} where
     pub is : fault ≡ read_failed (input_of old) (suc (lines_given old))
     pub cause : (device.has_failed (source_of new) ≡ true) ⊎ (2 ^ 63 ≤ bytes_taken new)
 
-  -- the piece that was cut off is no line: the line feeds among the bytes taken, the last one past
+  -- the piece that was cut off is no line: the line feeds among the bytes handed over, the last one past
   -- the bound aside, all end lines that were given
-  pub record CutsOff (device : Source S) (old new : LineReader S) : Type 0 where
-    pub bytes : List ℕ
-    pub hands : Hands device old bytes new
-    pub given : lines_given new
-        ≡ feeds_taken old + line_feeds (take (2 ^ 63 - 1 - bytes_taken old) bytes)
+  abbrev pub CutsOff : LineReader S → List ℕ → LineReader S → Type 0
+  CutsOff old bytes new = lines_given new ≡ feeds_taken old + line_feeds (take (2 ^ 63 - 1 - bytes_taken old) bytes)
 
   -- once these bytes were handed over, what follows the lines given and one line more is still to come, whatever it is,
   -- except at most a block
@@ -247,7 +244,7 @@ module _ {S : Type 0} where
     pub no_line : fault_kept old ≡ None → line_feeds (held old) ≡ 0
     pub first : fault_kept old ≡ None → FailsToRead device old fault new ⊎ (fault ≡ no_memory)
     pub cut_off : fault_kept old ≡ None → fault ≡ read_failed (input_of old) (suc (lines_given old))
-        → CutsOff device old new
+        → CutsOff old bytes.0 new
     -- what follows the line that couldn't be given is still to come, except at most a block
     pub near : fault_kept old ≡ None → IsNear old bytes.0 new
     pub served : fault ≡ no_memory → device.has_failed (source_of new) ≡ device.has_failed (source_of old)

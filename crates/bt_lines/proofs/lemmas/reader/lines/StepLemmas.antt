@@ -14,7 +14,7 @@ use Rattle.bt_lines.specs.inside.Spill.{Buffers, closed}
 use Rattle.bt_lines.specs.calls.Output.{block_size}
 use Rattle.bt_lines.specs.calls.Line.{NoLineFeed, line_feeds}
 use Rattle.bt_lines.specs.calls.Names.{fault_value}
-use Rattle.bt_lines.specs.calls.Reader.{AreRead, EndsKnown, FillsLines, IsKept, IsSound, buffered_bytes, Hands, IsNear, FailsToRead, end_told, GivesLine, source_of, input_of, lines_given, bytes_taken, held, fault_kept, has_ended, feeds_taken, lines_coming, MayStillCome}
+use Rattle.bt_lines.specs.calls.Reader.{CutsOff, AreRead, EndsKnown, FillsLines, IsKept, IsSound, buffered_bytes, Hands, IsNear, FailsToRead, end_told, GivesLine, source_of, input_of, lines_given, bytes_taken, held, fault_kept, has_ended, feeds_taken, lines_coming, MayStillCome}
 use Rattle.bt_lines.specs.declared.fault.Fault.{Fault}
 use Rattle.bt_lines.specs.declared.fault.Input.{Input}
 use Rattle.bt_lines.specs.declared.reader.spill.Stop.{Stop}
@@ -252,8 +252,7 @@ module _ {S : Type 0} {device : Source S} {old new : LineReader S} {bytes text b
       sym (append_assoc (held old) bytes rest) ∙ ap (λ l. l ++ rest) line.joined ∙ append_assoc text behind rest in
       rw (one, all) (omega (arith, bytes_behind_first (suc (lines_given old)) text (behind ++ rest) line.clear, length-append behind rest, line.short))
 
-  cut_given : text ≡ held old ++ take (2 ^ 63 - 1 - bytes_taken old) bytes
-      → lines_given new ≡ feeds_taken old + line_feeds (take (2 ^ 63 - 1 - bytes_taken old) bytes)
+  cut_given : text ≡ held old ++ take (2 ^ 63 - 1 - bytes_taken old) bytes → CutsOff old bytes new
   unfolding feeds_taken
   cut_given e = grind (arith, line_feeds-append, line_feeds-none)
 
@@ -270,7 +269,7 @@ module _ {S : Type 0} {device : Source S} {old new : LineReader S} {bytes text b
       before_end = λ going. line.was.untold;
       no_line = λ going. line.no_line;
       first = λ going. cause;
-      cut_off = λ going e. record { bytes = bytes; hands = cut_hands; given = cut_given (cut e) };
+      cut_off = λ going e. cut_given (cut e);
       near = λ going. cut_near;
       served = served;
     };
