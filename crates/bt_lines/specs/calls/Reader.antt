@@ -8,7 +8,7 @@ use Rattle.bt_lines.specs.declared.reader.buffered_lines.ConsumedLines.{Consumed
 use Rattle.std.specs.Io.KnownBytes.{Consumes, IsAtEnd, prepend_known}
 use Rattle.bt_lines.specs.declared.device.Source.{Ghosts as Source}
 use Rattle.bt_lines.specs.inside.ReadBuffer.{complete, unread, ended_at, fault_at, open_at, taken_at, told_at}
-use Rattle.bt_lines.specs.calls.Device.{FailsAfter, ReadsOn}
+use Rattle.bt_lines.specs.calls.Device.{EndsAfter, FailsAfter, ReadsOn}
 use Rattle.bt_lines.specs.calls.Output.{block_size}
 use Rattle.bt_lines.specs.model.Fault.{FaultValue, read_failed}
 use Rattle.bt_lines.specs.calls.Faults.{no_memory}
@@ -162,6 +162,13 @@ module _ {S : Type 0} where
   EndsKnown device old bytes new = (end_told old ≡ true → bytes ≡ [])
       × (end_told old ≡ false → end_told new ≡ true → IfSome (device.left (source_of old)) (λ text. text ≡ bytes))
 
+  -- Once the end was reported, nothing is read. If it is reported now, the last read handed over no bytes. After a fault
+  -- it isn't.
+  unfoldable pub EndsReads : Source S → LineReader S → List ℕ → LineReader S → Type 0
+  EndsReads device old bytes new = (end_told old ≡ true → source_of new ≡ source_of old)
+      × (end_told old ≡ false → end_told new ≡ true → EndsAfter device.is_read (source_of old) bytes (source_of new))
+      × (IsSome (fault_kept old) → end_told new ≡ end_told old)
+
   -- the source handed over these bytes in the call
   pub record Hands (device : Source S) (old : LineReader S) (bytes : List ℕ)
       (new : LineReader S) : Type 0 where
@@ -170,6 +177,7 @@ module _ {S : Type 0} where
     pub stops : IsSome (fault_kept old)
         → (bytes ≡ []) × (source_of new ≡ source_of old) × (fault_kept new ≡ fault_kept old)
     pub ends : EndsKnown device old bytes new
+    pub ends_reads : EndsReads device old bytes new
     -- known bytes lose them
     pub left_over : Consumes (device.left (source_of old)) (device.left (source_of new)) bytes
     pub counted : bytes_taken new ≡ bytes_taken old + length bytes
