@@ -82,7 +82,7 @@ module _ {S : Type 0} where
   -- a line couldn't be read, and no line before it was at fault
   pub record EntryUnread (device : Source S) (old : LineReader S) (bytes : List ℕ) (new : LineReader S)
       (fault : FaultValue) : Type 0 where
-    pub fails : ReadingFails device old new fault
+    pub fails : ReadingFails device old bytes new fault
     pub given : List Entry
     pub passed : (rest : List ℕ) → MayStillCome new rest
         → genome_of (input_of old) (take (lines_given new - lines_given old) (lines_coming (bytes ++ rest) old)) ≡ Ok given

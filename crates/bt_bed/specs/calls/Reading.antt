@@ -96,16 +96,16 @@ module _ {S : Type 0} where
   LinesPass old bytes new = (rest : List ℕ) → MayStillCome new rest
       → lines_coming rest new ≡ drop (lines_given new - lines_given old) (lines_coming (bytes ++ rest) old)
 
-  -- the source failed, or its text is too long
-  pub record ReadingFails (device : Source S)
-      (old new : LineReader S) (fault : FaultValue) : Type 0 where
+  -- once these bytes were handed over, the source failed, or its text is too long
+  pub record ReadingFails (device : Source S) (old : LineReader S) (bytes : List ℕ) (new : LineReader S)
+      (fault : FaultValue) : Type 0 where
     pub is : fault ≡ read_failed (input_of old) (suc (lines_given new))
     pub kept : line_fault new ≡ Some fault
     pub cause : (device.has_failed (source_of new) ≡ true) ⊎ (2 ^ 63 ≤ bytes_taken new)
     -- it comes before the end
     pub before_end : end_told old ≡ false
-    -- the complete lines among the bytes taken in the call are those that were given
-    pub cut : IsKept device old → CutsOff device old new
+    -- the complete lines among those bytes are those that were given
+    pub cut : IsKept device old → CutsOff old bytes new
 
   -- memory ran out, and no failed read is kept
   pub record MemoryRanOut (failed : S → Bool) (old new : LineReader S) (fault : FaultValue) : Type 0 where
@@ -224,7 +224,7 @@ module _ {S A State : Type 0} where
   -- a line couldn't be read, and no line before it was at fault or had a member
   pub record LineUnread (device : Source S) (old : MemberReader S A State) (bytes : List ℕ)
       (fault : FaultValue) (new : MemberReader S A State) : Type 0 where
-    pub fails : ReadingFails device old.below new.below fault
+    pub fails : ReadingFails device old.below bytes new.below fault
     pub passed : SaidNothing old bytes new
 
   -- the last line given has the first member that comes, whatever follows, and it couldn't be kept

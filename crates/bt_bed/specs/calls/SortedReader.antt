@@ -1,6 +1,6 @@
 -- What a reader of sorted records holds, and what the calls of one do.
 use Rattle.std.specs.Prelude.{◌≡◌, ℕ, List, [], ◌∷◌, ◌++◌, drop, length, take, ◌-◌, ◌≤◌, ◌&&◌, not, Bool, true, false, Option, Some, None, Result, Ok, Err, IsTrue, option_map, IfSome, bytes_eq, ⊤}
-use Rattle.bt_lines.specs.calls.Reader.{BeginsLines, Hands, IsKept, MayStillCome, TakenLines, TakesLines, buffered_bytes, buffered_in as lines_buffered, input_of, is_open, fault_kept as line_fault, lines_given}
+use Rattle.bt_lines.specs.calls.Reader.{BeginsLines, IsKept, MayStillCome, TakenLines, TakesLines, buffered_bytes, buffered_in as lines_buffered, input_of, is_open, fault_kept as line_fault, lines_given}
 use Rattle.bt_bed.specs.model.Feature.{Feature}
 use Rattle.bt_bed.specs.calls.Features.{IsFeature}
 use Rattle.bt_bed.specs.calls.Bed.{is_some_left, last_start, feature_lent}
@@ -18,7 +18,7 @@ use Rattle.bt_lines.specs.declared.reader.line_reader.LineReader.{LineReader}
 use Rattle.bt_bed.specs.model.Good.{Member, or_else, bed_format, line_says, locus_at}
 use Rattle.bt_bed.specs.inside.OrderedLookahead.{IsElsewhere, KeepsLast, ahead_of, last_in, name_in, start_in as kept_start}
 use Rattle.bt_bed.specs.model.Sorted.{Locus, Sorting, falls_in}
-use Rattle.bt_bed.specs.calls.Reading.{AnswersFault, EndsMembers, FillAnswers, GivesMember, IsLost, IsSaidBehind, MemberReader, Takes, ahead_in, coming}
+use Rattle.bt_bed.specs.calls.Reading.{AnswersFault, EndsMembers, FillAnswers, Fills, GivesMember, IsLost, IsSaidBehind, MemberReader, Takes, ahead_in, coming}
 use Rattle.bt_bed.specs.declared.record.bed.BedRef.{BedRef}
 use Rattle.bt_bed.specs.declared.read.sorted.Sorted.{Ghosts as SortedGhosts}
 use Rattle.bt_bed.specs.declared.read.sorted_reader.SortedReader.{SortedReader}
@@ -142,22 +142,35 @@ module _ {S Q : Type 0} where
       pub keeps : KeepsLast old.lookahead new.lookahead
 
 -- the record of the last line given lies on another chromosome than the record consumed last, and its name couldn't be kept
-pub record NameUnkept {S : Type 0} (device : Source S) (old : MemberReader S Feature (Option Locus)) (new : LineReader S) : Type 0 where
-  pub bytes : (bytes : List ℕ) × Hands device old.below bytes new
+pub record NameUnkept {S : Type 0} (old : MemberReader S Feature (Option Locus)) (bytes : List ℕ) (new : LineReader S) : Type 0 where
   pub r : Feature
   -- it is the first of what comes, whatever follows
   pub first : (rest : List ℕ) → MayStillCome new rest → (more : List (Member Feature))
-      × ((coming (bytes.0 ++ rest) old).members ≡ record { line = lines_given new; item = r } ∷ more)
+      × ((coming (bytes ++ rest) old).members ≡ record { line = lines_given new; item = r } ∷ more)
   -- it is what a line says after the record consumed last
   pub said : IsSaidBehind old.format old.state r
   pub elsewhere : IfSome old.state (λ last. bytes_eq last.chrom r.chrom ≡ false)
 
--- memory runs out only for a line that couldn't be read, or for the name of another chromosome
-abbrev pub RunsOutForName : {S T : Type 0} → Source S → MemberReader S Feature (Option Locus) → Result T Fault
+-- once these bytes were handed over, memory ran out only for a line that couldn't be read, or for the name of
+-- another chromosome
+abbrev pub RunsOutForName : {S T : Type 0} → MemberReader S Feature (Option Locus) → Result T Fault → List ℕ
     → LineReader S → Type 0
-RunsOutForName device old (Ok done) new = ⊤
-RunsOutForName device old (Err fault) new = old.fault ≡ None → fault_value fault ≡ no_memory → line_fault new ≡ None
-    → NameUnkept device old new
+RunsOutForName old (Ok done) bytes new = ⊤
+RunsOutForName old (Err fault) bytes new = old.fault ≡ None → fault_value fault ≡ no_memory → line_fault new ≡ None
+    → NameUnkept old bytes new
+
+-- the bytes handed over in a call of `fill`
+abbrev pub fill_bytes : {S : Type 0} (device : Source S) (old new : MemberReader S Feature (Option Locus))
+    (answer : Result Bool Fault) → FillAnswers device old answer new → List ℕ
+fill_bytes device old new (Ok true) answers = answers.1.stays.bytes.0
+fill_bytes device old new (Ok false) answers = answers.stays.bytes.0
+fill_bytes device old new (Err fault) answers = answers.stays.bytes.0
+
+-- a call of `fill`, and what name it was if memory ran out for one
+pub record FillsByName {S : Type 0} (device : Source S) (old : MemberReader S Feature (Option Locus))
+    (answer : Result Bool Fault) (new : MemberReader S Feature (Option Locus)) : Type 0 where
+  pub fills : Fills device old answer new
+  pub for_name : RunsOutForName old answer (fill_bytes device old new answer fills.answers) new.below
 
 -- What the calls do, whatever the rule. `Next` is what is known of the record ahead, and `Keeps` is
 -- what else the call leaves as it was.
@@ -168,7 +181,7 @@ module _ {S : Type 0} (device : Source S) (Next : Feature → Type 0) (Keeps : T
     pub answers : FillAnswers device old answer new
     -- the record ahead, if there is one, is one that a line can say, and comes next
     pub next : IfSome (ahead_in new) (λ m. IsFeature m.item × Next m.item)
-    pub for_name : RunsOutForName device old answer new.below
+    pub for_name : RunsOutForName old answer (fill_bytes device old new answer answers) new.below
     pub kept : IsKept device old.below → IsKept device new.below
     pub order : Keeps
 
@@ -179,11 +192,17 @@ module _ {S : Type 0} (device : Source S) (Next : Feature → Type 0) (Keeps : T
   PeekAnswers (Ok None) = EndsMembers device old new
   PeekAnswers (Err fault) = AnswersFault device old (fault_value fault) new
 
+  -- the bytes handed over in the call
+  abbrev pub peek_bytes : (answer : Result (Option BedRef) Fault) → PeekAnswers answer → List ℕ
+  peek_bytes (Ok (Some bed)) answers = answers.1.stays.bytes.0
+  peek_bytes (Ok None) answers = answers.stays.bytes.0
+  peek_bytes (Err fault) answers = answers.stays.bytes.0
+
   -- a call of `peek`
   pub record PeeksSorted (answer : Result (Option BedRef) Fault) : Type 0 where
     pub answers : PeekAnswers answer
     pub next : IfSome (ahead_in new) (λ m. IsFeature m.item × Next m.item)
-    pub for_name : RunsOutForName device old answer new.below
+    pub for_name : RunsOutForName old answer (peek_bytes answer answers) new.below
     pub kept : IsKept device old.below → IsKept device new.below
     pub order : Keeps
 

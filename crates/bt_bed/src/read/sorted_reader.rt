@@ -32,8 +32,8 @@ impl<S: Source, Q: Sorted + Drop> SortedReader<S, Q> {
     ghost use Rattle.bt_bed.specs.calls.Bed.{feature_lent};
     ghost use Rattle.bt_bed.specs.model.Feature.{Feature};
     ghost use Rattle.bt_bed.specs.inside.OrderedLookahead.{IsKnownLast, last_in};
-    ghost use Rattle.bt_bed.specs.calls.Reading.{Fills, Takes};
-    ghost use Rattle.bt_bed.specs.calls.SortedReader.{IsPlaced, IsPlacedBy, IsTaken, Lends, RunsOutForName, TakesFirst, buffered_in, count_in, fault_in, sorting_in, view_by, view_with};
+    ghost use Rattle.bt_bed.specs.calls.Reading.{Takes};
+    ghost use Rattle.bt_bed.specs.calls.SortedReader.{FillsByName, IsPlaced, IsPlacedBy, IsTaken, Lends, TakesFirst, buffered_in, count_in, fault_in, sorting_in, view_by, view_with};
 
     // No record yet.
     pub(crate) fn new(alloc: Global, reader: LineReader<S>, rule: Q) -> SortedReader<S, Q>
@@ -56,8 +56,7 @@ impl<S: Source, Q: Sorted + Drop> SortedReader<S, Q> {
     pub(crate) fn fill(&mut self) -> Result<bool, Fault>
         requires { IsPlacedBy Q.Sorted self.old self.old }
         ensures rule { self.new.lookahead.rule ≡ self.old.lookahead.rule }
-        ensures fills { Fills S.Source (view_by Q.Sorted self.old self.old) result (view_by Q.Sorted self.old self.new) }
-        ensures for_name { RunsOutForName S.Source (view_by Q.Sorted self.old self.old) result self.new.reader }
+        ensures fills { FillsByName S.Source (view_by Q.Sorted self.old self.old) result (view_by Q.Sorted self.old self.new) }
         ensures placed { IsPlacedBy Q.Sorted self.old self.new }
     {
         if self.is_ahead {
@@ -131,8 +130,7 @@ impl<S: Source, Q: Sorted + Drop> SortedReader<S, Q> {
         requires none { self.old.is_ahead ≡ false }
         requires placed { IsPlacedBy Q.Sorted self.old self.old }
         ensures rule { self.new.lookahead.rule ≡ self.old.lookahead.rule }
-        ensures fills { Fills S.Source (view_by Q.Sorted self.old self.old) result (view_by Q.Sorted self.old self.new) }
-        ensures for_name { RunsOutForName S.Source (view_by Q.Sorted self.old self.old) result self.new.reader }
+        ensures fills { FillsByName S.Source (view_by Q.Sorted self.old self.old) result (view_by Q.Sorted self.old self.new) }
         ensures placed { IsPlacedBy Q.Sorted self.old self.new }
     {
         if let Some(fault) = self.fault {
@@ -155,9 +153,8 @@ impl<S: Source, Q: Sorted + Drop> SortedReader<S, Q> {
         ensures rule { self.new.lookahead.rule ≡ self.old.lookahead.rule }
         ensures fault { self.new.fault ≡ None }
         ensures none { self.new.is_ahead ≡ true → result ≡ Ok true }
-        ensures fills { Fills S.Source (view_by Q.Sorted self.old self.old) result
+        ensures fills { FillsByName S.Source (view_by Q.Sorted self.old self.old) result
             (view_with (sorting_in Q.Sorted self.old.lookahead) (fault_in result) self.new.reader self.new.lookahead (buffered_in self.new)) }
-        ensures for_name { RunsOutForName S.Source (view_by Q.Sorted self.old self.old) result self.new.reader }
         ensures placed { IsPlaced (sorting_in Q.Sorted self.old.lookahead)
             (view_with (sorting_in Q.Sorted self.old.lookahead) (fault_in result) self.new.reader self.new.lookahead (buffered_in self.new)) }
     {

@@ -41,6 +41,12 @@ module _ {S : Type 0} (IsRead : S → Option (List ℕ) → S → Type 0) where
     pub served : ReadsOn IsRead old bytes before
     pub fails : IsRead before None new
 
+  -- or one handed over no bytes: the end was reported
+  pub record EndsAfter (old : S) (bytes : List ℕ) (new : S) : Type 0 where
+    pub before : S
+    pub served : ReadsOn IsRead old bytes before
+    pub tells : IsRead before (Some []) new
+
 -- What the adapters of std's readers and writers hold.
 
 -- the reader below the source

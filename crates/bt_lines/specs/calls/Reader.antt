@@ -8,7 +8,7 @@ use Rattle.bt_lines.specs.declared.reader.buffered_lines.ConsumedLines.{Consumed
 use Rattle.std.specs.Io.KnownBytes.{Consumes, IsAtEnd, prepend_known}
 use Rattle.bt_lines.specs.declared.device.Source.{Ghosts as Source}
 use Rattle.bt_lines.specs.inside.ReadBuffer.{complete, unread, ended_at, fault_at, open_at, taken_at, told_at}
-use Rattle.bt_lines.specs.calls.Device.{FailsAfter, ReadsOn}
+use Rattle.bt_lines.specs.calls.Device.{EndsAfter, FailsAfter, ReadsOn}
 use Rattle.bt_lines.specs.calls.Output.{block_size}
 use Rattle.bt_lines.specs.model.Fault.{FaultValue, read_failed}
 use Rattle.bt_lines.specs.calls.Faults.{no_memory}
@@ -162,6 +162,13 @@ module _ {S : Type 0} where
   EndsKnown device old bytes new = (end_told old ≡ true → bytes ≡ [])
       × (end_told old ≡ false → end_told new ≡ true → IfSome (device.left (source_of old)) (λ text. text ≡ bytes))
 
+  -- Once the end was reported, nothing is read. If it is reported now, the last read handed over no bytes. After a fault
+  -- it isn't.
+  unfoldable pub EndsReads : Source S → LineReader S → List ℕ → LineReader S → Type 0
+  EndsReads device old bytes new = (end_told old ≡ true → source_of new ≡ source_of old)
+      × (end_told old ≡ false → end_told new ≡ true → EndsAfter device.is_read (source_of old) bytes (source_of new))
+      × (IsSome (fault_kept old) → end_told new ≡ end_told old)
+
   -- the source handed over these bytes in the call
   pub record Hands (device : Source S) (old : LineReader S) (bytes : List ℕ)
       (new : LineReader S) : Type 0 where
@@ -170,6 +177,7 @@ module _ {S : Type 0} where
     pub stops : IsSome (fault_kept old)
         → (bytes ≡ []) × (source_of new ≡ source_of old) × (fault_kept new ≡ fault_kept old)
     pub ends : EndsKnown device old bytes new
+    pub ends_reads : EndsReads device old bytes new
     -- known bytes lose them
     pub left_over : Consumes (device.left (source_of old)) (device.left (source_of new)) bytes
     pub counted : bytes_taken new ≡ bytes_taken old + length bytes
@@ -218,13 +226,10 @@ module _ {S : Type 0} where
     pub is : fault ≡ read_failed (input_of old) (suc (lines_given old))
     pub cause : (device.has_failed (source_of new) ≡ true) ⊎ (2 ^ 63 ≤ bytes_taken new)
 
-  -- the piece that was cut off is no line: the line feeds among the bytes taken, the last one past
+  -- the piece that was cut off is no line: the line feeds among the bytes handed over, the last one past
   -- the bound aside, all end lines that were given
-  pub record CutsOff (device : Source S) (old new : LineReader S) : Type 0 where
-    pub bytes : List ℕ
-    pub hands : Hands device old bytes new
-    pub given : lines_given new
-        ≡ feeds_taken old + line_feeds (take (2 ^ 63 - 1 - bytes_taken old) bytes)
+  abbrev pub CutsOff : LineReader S → List ℕ → LineReader S → Type 0
+  CutsOff old bytes new = lines_given new ≡ feeds_taken old + line_feeds (take (2 ^ 63 - 1 - bytes_taken old) bytes)
 
   -- once these bytes were handed over, what follows the lines given and one line more is still to come, whatever it is,
   -- except at most a block
@@ -247,7 +252,7 @@ module _ {S : Type 0} where
     pub no_line : fault_kept old ≡ None → line_feeds (held old) ≡ 0
     pub first : fault_kept old ≡ None → FailsToRead device old fault new ⊎ (fault ≡ no_memory)
     pub cut_off : fault_kept old ≡ None → fault ≡ read_failed (input_of old) (suc (lines_given old))
-        → CutsOff device old new
+        → CutsOff old bytes.0 new
     -- what follows the line that couldn't be given is still to come, except at most a block
     pub near : fault_kept old ≡ None → IsNear old bytes.0 new
     pub served : fault ≡ no_memory → device.has_failed (source_of new) ≡ device.has_failed (source_of old)

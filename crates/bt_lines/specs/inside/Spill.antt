@@ -3,7 +3,7 @@
 use Rattle.std.specs.Prelude.{◌≡◌, ◌⊎◌, ℕ, ◌+◌, ◌-◌, ◌^◌, ◌<◌, Bool, true, List, [], ◌∷◌, ◌++◌, length, Option}
 use Rattle.std.specs.Io.KnownBytes.{Consumes, IsAtEnd}
 use Rattle.bt_lines.specs.declared.device.Source.{Ghosts as Source}
-use Rattle.bt_lines.specs.calls.Device.{FailsAfter, ReadsOn}
+use Rattle.bt_lines.specs.calls.Device.{EndsAfter, FailsAfter, ReadsOn}
 use Rattle.bt_lines.specs.calls.Line.{NoLineFeed, line_feeds}
 use Rattle.bt_lines.specs.declared.reader.spill.More.{More}
 use Rattle.bt_lines.specs.declared.reader.spill.More.TheVariants.{Bytes, NoBytes, BadRead, PastBound}
@@ -30,14 +30,16 @@ abbrev pub uncounted_more : More → ℕ
 uncounted_more PastBound = 1
 uncounted_more _ = 0
 
--- the reads of a request handed over these bytes, and only the last one may have failed
+-- the reads of a request handed over these bytes, and only the last one may have failed or reported the end
 abbrev pub IsHanded : {S : Type 0} → (S → Option (List ℕ) → S → Type 0) → More → S → List ℕ → S → Type 0
 IsHanded IsRead BadRead old bytes new = FailsAfter IsRead old bytes new
+IsHanded IsRead NoBytes old bytes new = EndsAfter IsRead old bytes new
 IsHanded IsRead _ old bytes new = ReadsOn IsRead old bytes new
 
 -- and those up to a stop
 abbrev pub AreHanded : {S : Type 0} → (S → Option (List ℕ) → S → Type 0) → Stop → S → List ℕ → S → Type 0
 AreHanded IsRead Failed old bytes new = FailsAfter IsRead old bytes new
+AreHanded IsRead End old bytes new = EndsAfter IsRead old bytes new
 AreHanded IsRead _ old bytes new = ReadsOn IsRead old bytes new
 
 module _ {S : Type 0} (device : Source S) where

@@ -54,7 +54,7 @@ pub struct LineReader<S> {
 
 #[tactic(auto, unfolding(crate::specs::calls::Reader::source_of, crate::specs::calls::Reader::input_of, crate::specs::calls::Reader::lines_given, crate::specs::calls::Reader::bytes_taken, crate::specs::calls::Reader::held, crate::specs::calls::Reader::fault_kept, crate::specs::calls::Reader::has_ended, crate::specs::calls::Reader::end_told, crate::specs::calls::Reader::lines_coming, crate::specs::calls::Reader::feeds_taken, crate::specs::calls::Reader::line_room))]
 impl<S: Source> LineReader<S> {
-    ghost use Rattle.std.specs.Prelude.{◌≡◌, ℕ, List, suc, ◌<◌, ◌-◌, ◌≤◌, ◌^◌, None, Some, IsSome, Option, Ok, Err, [], false, true, option_map};
+    ghost use Rattle.std.specs.Prelude.{◌≡◌, ℕ, List, suc, ◌<◌, ◌-◌, ◌≤◌, ◌^◌, None, Some, IsSome, Option, Ok, Err, [], false, true};
     ghost use Rattle.std.specs.Borrow.{sem};
     ghost use Rattle.std.specs.Io.BufRead.{Rests};
     ghost use Rattle.bt_lines.specs.contracts.reader.line_reader.LineReader.{the_row};

@@ -130,7 +130,7 @@ module _ {S A State : Type 0} (device : Source S) where
       pub is : fault ≡ read_failed (input_of old.below) (suc (lines_given new.below))
       pub kept : new.fault ≡ Some fault
       pub cause : (device.has_failed (source_of new.below) ≡ true) ⊎ (2 ^ 63 ≤ bytes_taken new.below)
-      pub cut : CutsOff device old.below new.below
+      pub cut : (bytes : List ℕ) × Hands device old.below bytes new.below × CutsOff old.below bytes new.below
       -- the lines given have these members, and none of them is at fault
       pub members : IfSome (good_coming device.left old) (λ good. (rest : List (Member A))
           × (good.members ≡ past ++ rest)

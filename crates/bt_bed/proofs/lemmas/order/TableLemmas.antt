@@ -152,15 +152,14 @@ module _ {S : Type 0} (device : Source S) where
     near_fault fault gives going = near_pass device old now new p.bytes.0 gives.bytes.0 gives.bytes.1 p.lines (gives.near going) p.least (omega (arith, gives.counted))
 
     -- the line feeds among the bytes taken all end lines that were given
-    pub cut_fault : (fault : FaultValue) → GivesFault device now fault new → fault_kept now ≡ None → fault ≡ read_failed (input_of now) (suc (lines_given now)) → CutsOff device old new
+    pub cut_fault : (fault : FaultValue) (gives : GivesFault device now fault new) → fault_kept now ≡ None → fault ≡ read_failed (input_of now) (suc (lines_given now)) → CutsOff old (p.bytes.0 ++ gives.bytes.0) new
     cut_fault fault gives going is =
-        let cut = gives.cut_off going is in
         let within : bytes_taken now < 2 ^ 63 = taken_below now going in
         let fed = p.bytes.1.fed (gives.before_end going) within in
         let counted = p.bytes.1.counted in
-        let given = cut.given in
-        let front = front_of_both p.bytes.0 cut.bytes (2 ^ 63 - 1 - bytes_taken old) (2 ^ 63 - 1 - bytes_taken now) (omega arith) in
-        grind (arith, (hands_both device old now new p.bytes.0 cut.bytes p.bytes.1 cut.hands), (line_feeds-append p.bytes.0 (take (2 ^ 63 - 1 - bytes_taken now) cut.bytes)))
+        let given = gives.cut_off going is in
+        let front = front_of_both p.bytes.0 gives.bytes.0 (2 ^ 63 - 1 - bytes_taken old) (2 ^ 63 - 1 - bytes_taken now) (omega arith) in
+        grind (arith, (line_feeds-append p.bytes.0 (take (2 ^ 63 - 1 - bytes_taken now) gives.bytes.0)))
 
 -- Lemmas on a table of chromosomes and on reading one.
 

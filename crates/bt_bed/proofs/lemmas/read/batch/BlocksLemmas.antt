@@ -6,11 +6,11 @@ use Rattle.bt_bed.proofs.lemmas.Definitions.{line_said, block_up_to}
 use Rattle.bt_bed.proofs.lemmas.read.good.SaidLemmas.{said_features}
 use Rattle.bt_bed.proofs.lemmas.read.batch.RecordsLemmas.{ahead_is, none_ahead}
 use Rattle.bt_bed.specs.calls.Blocks.{FillsBlocks, IsNext, TakesBlocks, view_of}
-use Rattle.bt_bed.specs.calls.SortedReader.{RunsOutForName, buffered_in as records_in, view_in, view_with}
+use Rattle.bt_bed.specs.calls.SortedReader.{FillsByName, buffered_in as records_in, view_in, view_with}
 use Rattle.bt_bed.specs.model.Feature.{Feature}
 use Rattle.bt_bed.specs.calls.Features.{IsFeature}
 use Rattle.bt_bed.specs.model.Good.{Member, locus_at}
-use Rattle.bt_bed.specs.calls.Reading.{Fills, FillAnswers, GivesMember, Takes, ahead_in}
+use Rattle.bt_bed.specs.calls.Reading.{FillAnswers, GivesMember, Takes, ahead_in}
 use Rattle.bt_bed.specs.model.Sorted.{block_sorting}
 use Rattle.bt_bed.specs.declared.read.blocks.Blocks.{Blocks}
 
@@ -27,11 +27,10 @@ module _ {S : Type 0} (device : Source S) where
   filled old new (Err fault) makes = none_ahead (view_of new) (λ m. IsFeature m.item × IsNext old m.item) makes.none_buffered
 
   -- `fill` of the reader below
-  pub fills_blocks : (old new : Blocks S) (result : Result Bool Fault) → Fills device (view_in block_sorting old.sorted) result (view_in block_sorting new.sorted)
-      → RunsOutForName device (view_in block_sorting old.sorted) result new.sorted.reader → FillsBlocks device old result new
+  pub fills_blocks : (old new : Blocks S) (result : Result Bool Fault) → FillsByName device (view_in block_sorting old.sorted) result (view_in block_sorting new.sorted) → FillsBlocks device old result new
   unfolding view_of view_with
-  fills_blocks old new result there for_name =
-      record { answers = there.answers; next = filled old new result there.answers; for_name = for_name; kept = there.kept; order = tt }
+  fills_blocks old new result there =
+      record { answers = there.fills.answers; next = filled old new result there.fills.answers; for_name = there.for_name; kept = there.fills.kept; order = tt }
 
 module _ {S : Type 0} (device : Source S) (old new : Blocks S) where
   -- `consume` of the reader below

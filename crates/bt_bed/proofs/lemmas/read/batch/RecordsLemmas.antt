@@ -9,7 +9,7 @@ use Rattle.bt_bed.proofs.lemmas.read.good.ReadingLemmas.{good_at_first}
 use Rattle.bt_bed.proofs.lemmas.read.good.SaidLemmas.{said_features, wrong_is_of_line, wrong_is_of_record}
 use Rattle.bt_bed.proofs.lemmas.order.OrderLemmas.{sorted_up_to}
 use Rattle.bt_bed.specs.calls.Batch.{StandsFirst, chrom_in, cursor_in, left, left_after, start_in}
-use Rattle.bt_bed.specs.calls.SortedReader.{IsPlaced, RunsOutForName, buffered_in as records_in, view_in, view_with}
+use Rattle.bt_bed.specs.calls.SortedReader.{FillsByName, IsPlaced, buffered_in as records_in, view_in, view_with}
 use Rattle.bt_bed.specs.model.Feature.{Feature}
 use Rattle.bt_bed.specs.model.BedLine.{is_bed_kind, is_record_kind, record_of}
 use Rattle.bt_bed.specs.calls.Features.{IsFeature, wrong_lines_are_of_bed}
@@ -18,7 +18,7 @@ use Rattle.bt_bed.specs.inside.OrderedLookahead.{IsElsewhere, last_in, start_aft
 use Rattle.bt_bed.specs.model.Order.{Order}
 use Rattle.bt_bed.specs.calls.Orders.{IsTotal, IsUpTo}
 use Rattle.bt_bed.specs.model.Sorted.{Locus, Sorting, sorting_of}
-use Rattle.bt_bed.specs.calls.Reading.{Fills, FillAnswers, GivesMember, MemberReader, Takes, ahead_in, first_from, coming}
+use Rattle.bt_bed.specs.calls.Reading.{FillAnswers, GivesMember, MemberReader, Takes, ahead_in, first_from, coming}
 use Rattle.bt_bed.specs.calls.Records.{FillsRecords, IsNext, TakesRecords, order_in, view_of}
 use Rattle.bt_bed.specs.calls.Bed.{is_on, record_on, run_of, run_then, IsOnLine, raw_in, record_in, text_in}
 use Rattle.bt_bed.specs.declared.read.sorted_reader.SortedReader.{SortedReader}
@@ -109,12 +109,11 @@ module _ {S O : Type 0} {g : Ghosts O} (device : Source S) (old new : Records S 
   was_view = refl
 
   -- `fill` of the reader below
-  pub fills_records : (result : Result Bool Fault) → IsTotal (order_in old) → Fills device (view_in (sorting_at g old.sorted) old.sorted) result (view_in (sorting_at g old.sorted) new.sorted)
-      → RunsOutForName device (view_in (sorting_at g old.sorted) old.sorted) result new.sorted.reader → FillsRecords device old result new
+  pub fills_records : (result : Result Bool Fault) → IsTotal (order_in old) → FillsByName device (view_in (sorting_at g old.sorted) old.sorted) result (view_in (sorting_at g old.sorted) new.sorted) → FillsRecords device old result new
   unfolding view_of view_with
-  fills_records result total fills for_name =
-      let there : Fills device (view_of old) result (view_of new) = rw (same_view, ← was_view) fills in
-      record { answers = there.answers; next = filled device old new result total there.answers; for_name = for_name; kept = there.kept; order = same_order }
+  fills_records result total fills =
+      let there : FillsByName device (view_of old) result (view_of new) = rw (same_view, ← was_view) fills in
+      record { answers = there.fills.answers; next = filled device old new result total there.fills.answers; for_name = there.for_name; kept = there.fills.kept; order = same_order }
 
   -- `consume` of the reader below
   pub takes_records : (count : ℕ) → Takes device (view_in (sorting_at g old.sorted) old.sorted) (take count (records_in old.sorted)) (view_in (sorting_at g old.sorted) new.sorted) → TakesRecords device old count new

@@ -1,5 +1,5 @@
 -- Lemmas on a reader of sorted records.
-use Rattle.bt_lines.proofs.Std.{IfNone, ◌≡◌, ℕ, suc, ◌-◌, ◌<◌, ◌≤◌, Bool, true, false, List, [], ◌∷◌, ◌++◌, length, take, drop, Option, Some, None, Ok, refl, sym, ap, ◌∙◌, subst, arith, length-take, take-append-drop, if◌then◌else◌, is_some, IfSome, IsTrue, option_map, ForSome, Result, Err, inl, inr}
+use Rattle.bt_lines.proofs.Std.{IfNone, IsErrAnd, ◌≡◌, ℕ, suc, ◌-◌, ◌<◌, ◌≤◌, Bool, true, false, List, [], ◌∷◌, ◌++◌, length, take, drop, Option, Some, None, Ok, refl, sym, ap, ◌∙◌, subst, arith, length-take, take-append-drop, if◌then◌else◌, is_some, IfSome, IsTrue, option_map, ForSome, Result, Err, inl, inr}
 use Rattle.bt_lines.specs.declared.device.Source.{Ghosts as Source}
 use Rattle.bt_lines.proofs.lemmas.reader.lines.TakingLemmas.{next_bytes, next_number, prefix_of}
 use Rattle.bt_lines.specs.calls.Reader.{MayStillCome, TakesLines, buffered_in as lines_buffered, fault_kept as line_fault, input_of, lines_coming, lines_given, GivesEnd, GivesFault, IsKept, MakesLine}
@@ -8,7 +8,7 @@ use Rattle.bt_lines.specs.calls.Line.{AreNumbered}
 use Rattle.bt_lines.specs.calls.Names.{fault_value}
 use Rattle.bt_lines.specs.declared.fault.Input.{Input}
 use Rattle.bt_lines.specs.declared.reader.line_reader.LineReader.{LineReader}
-use Rattle.bt_bed.proofs.lemmas.read.good.ReadingLemmas.{none_pass, numbered_coming, LineCame, line_came, Follows, Going, gives_again, going_end, going_member, going_more, going_start, going_unkept, going_unread, going_wrong, given_first}
+use Rattle.bt_bed.proofs.lemmas.read.good.ReadingLemmas.{none_pass, numbered_coming, LineCame, line_came, Follows, Going, gives_again, going_end, going_member, going_more, going_start, going_unkept, going_unread, going_wrong, given_first, unkept_bytes}
 use Rattle.bt_bed.proofs.lemmas.Definitions.{line_said}
 use Rattle.bt_bed.proofs.lemmas.read.batch.RecordsLemmas.{placed_there, run_some, says_of_line}
 use Rattle.bt_bed.proofs.lemmas.read.good.SaidRuns.{LinesSay, good_said, order_behind, order_is_said, place_behind, run_behind, run_is_said, run_says, said_fewer, said_in_order, say_fewer, say_front, FirstOfRun, first_of_run, says_again}
@@ -17,14 +17,14 @@ use Rattle.bt_bed.specs.model.BedLine.{fault_at_line, record_of}
 use Rattle.bt_bed.specs.model.Good.{Format, Good, Member, good_after, or_else, bed_format, line_says, locus_at}
 use Rattle.bt_bed.specs.model.Sorted.{Locus, Sorting}
 use Rattle.bt_bed.specs.inside.OrderedLookahead.{HasNext, HoldsChrom, IsKnownLast, LineTaken, MakesLast, ahead_of, last_in, name_in, start_in, KeepsLast}
-use Rattle.bt_bed.specs.calls.Reading.{AreSaid, BeginsComing, LinesPass, MemberReader, Takes, coming, good_behind, members_from, state_behind, with_members, AnswersFault, Fills, IsLost}
+use Rattle.bt_bed.specs.calls.Reading.{AreSaid, BeginsComing, LinesPass, MemberReader, Takes, coming, good_behind, members_from, state_behind, with_members, AnswersFault}
 use Rattle.bt_bed.specs.calls.Batch.{StandsFirst, left, left_after}
 use Rattle.bt_bed.specs.calls.Bed.{feature_lent, is_some_left, record_in, run_of}
 use Rattle.bt_bed.specs.declared.record.bed.BedRef.{BedRef}
 use Rattle.bt_bed.specs.declared.read.batch.Batch.{Batch}
 use Rattle.bt_bed.specs.declared.record.raw_record.RawRecord.{RawRecord}
 use Rattle.bt_bed.proofs.lemmas.parse.NameLemmas.{name_eq}
-use Rattle.bt_bed.specs.calls.SortedReader.{FillsSorted, NameUnkept, PeeksSorted, RunsOutForName, IsPlaced, IsTaken, are_in_order, buffered_in, count_in, view_in, view_with, FindsRecord, LosesLine, SkipsLine, TakesFirst, TakesOne}
+use Rattle.bt_bed.specs.calls.SortedReader.{FillsByName, FillsSorted, NameUnkept, PeeksSorted, IsPlaced, IsTaken, are_in_order, buffered_in, count_in, view_in, view_with, FindsRecord, LosesLine, SkipsLine, TakesFirst, TakesOne}
 use Rattle.bt_bed.specs.declared.read.batch.Consumed.{Consumed}
 use Rattle.bt_bed.specs.declared.read.lookahead.OrderedLookahead.{OrderedLookahead}
 use Rattle.bt_bed.specs.declared.read.sorted_reader.SortedReader.{SortedReader}
@@ -33,8 +33,8 @@ use Rattle.bt_lines.specs.model.Fault.{FaultValue}
 use Rattle.bt_lines.specs.declared.fault.Fault.{Fault}
 use Rattle.bt_bed.proofs.lemmas.read.good.SaidLemmas.{bed_of_line}
 use Rattle.bt_bed.proofs.lemmas.read.ColumnLemmas.{said_record_name}
-use Rattle.bt_lines.proofs.lemmas.reader.block.ReadsLemmas.{hands_both, hands_none}
-use Rattle.bt_bed.proofs.lemmas.order.TableLemmas.{lost_parts}
+use Rattle.bt_lines.proofs.lemmas.reader.block.ReadsLemmas.{hands_none}
+use Rattle.bt_bed.proofs.lemmas.order.TableLemmas.{passed_on, lost_parts}
 use Rattle.bt_bed.specs.inside.FirstColumns.{IsRecordName}
 
 -- items that lines say are the first of what is good
@@ -297,58 +297,58 @@ module _ {S Q : Type 0} (device : Source S) (sorting : Sorting) where
         going_more device old (view_with sorting None now mid.lookahead []) (view_with sorting None new.reader new.lookahead []) line g (came skips.takes) (kept_on skips.takes) skips.says refl refl (follows None [])
 
     -- it said a record
-    pub sorted_record : FindsRecord device sorting mid line new → Fills device old (Ok true) (view_with sorting None new.reader new.lookahead (buffered_in new))
+    pub sorted_record : FindsRecord device sorting mid line new → FillsByName device old (Ok true) (view_with sorting None new.reader new.lookahead (buffered_in new))
     unfolding view_with
     sorted_record finds =
         let made : MakesLine device now new.reader = subst (λ r. MakesLine device now r) (sym finds.same) makes in
         let stays : IsKept device now → IsKept device new.reader = subst (λ r. IsKept device now → IsKept device r) (sym finds.same) kept in
         record {
-          answers = (
-            record { line = line.number; item = finds.r },
-            going_member device old g made stays
-                (ap lines_buffered finds.same ∙ first) (number ∙ ap (λ r. suc (lines_given r)) (sym finds.same)) finds.says finds.buffered refl (follows None (buffered_in new)),
-          );
-          kept = λ was. stays (g.passed.kept was);
+          fills = record {
+            answers = (
+              record { line = line.number; item = finds.r },
+              going_member device old g made stays
+                  (ap lines_buffered finds.same ∙ first) (number ∙ ap (λ r. suc (lines_given r)) (sym finds.same)) finds.says finds.buffered refl (follows None (buffered_in new)),
+            );
+            kept = λ was. stays (g.passed.kept was);
+          };
+          for_name = tt;
         }
 
-    lost_by : (fault : FaultValue) → TakesOne device mid.reader new.reader → IsLost (record { input = input_of mid.reader; line = line.number }) (line_says sorting (last_in mid.lookahead) line.text) fault
-        → AnswersFault device old fault (view_with sorting (Some fault) new.reader new.lookahead [])
+    -- a fault was returned once some bytes were handed over, and what name it was if memory ran out for one
+    record LostFor (fault : FaultValue) : Type 0 where
+      answers : AnswersFault device old fault (view_with sorting (Some fault) new.reader new.lookahead [])
+      for_name : fault ≡ no_memory → NameUnkept old answers.stays.bytes.0 new.reader
+
+    lost_by : (fault : FaultValue) → LosesLine device sorting mid line fault new → LostFor fault
     unfolding view_with
-    lost_by fault one lost = elim (lost_parts (record { input = input_of mid.reader; line = line.number }) (line_says sorting (last_in mid.lookahead) line.text) fault lost) [
-      | inl wrong ↦
-          going_wrong device old g (came one) refl refl (follows (Some fault) []) (kept_on one)
-          wrong.says (bed_of_line wrong.kind (says_of_line sorting (last_in mid.lookahead) line.text wrong.kind wrong.says))
-          (wrong.is ∙ ap (λ i. fault_at_line i line.number wrong.kind) (makes.bytes.1.same_input ∙ g.passed.bytes.1.same_input))
-      | inr unkept ↦
-          going_unkept device old g (came one) refl refl (follows (Some fault) []) (kept_on one) unkept.says unkept.is
+    lost_by fault loses = elim (lost_parts (record { input = input_of mid.reader; line = line.number }) (line_says sorting (last_in mid.lookahead) line.text) fault loses.cause) [
+      | inl wrong ↦ record {
+        answers = going_wrong device old g (came loses.takes) refl refl (follows (Some fault) []) (kept_on loses.takes)
+            wrong.says (bed_of_line wrong.kind (says_of_line sorting (last_in mid.lookahead) line.text wrong.kind wrong.says))
+            (wrong.is ∙ ap (λ i. fault_at_line i line.number wrong.kind) (makes.bytes.1.same_input ∙ g.passed.bytes.1.same_input));
+        for_name = λ is. absurd (let other = ap (λ (f : FaultValue). f.place) (sym wrong.is ∙ is) in cc);
+      }
+      | inr unkept ↦ record {
+        answers = going_unkept device old g (came loses.takes) refl refl (follows (Some fault) []) (kept_on loses.takes) unkept.says unkept.is;
+        for_name = λ is. subst (λ bytes. NameUnkept old bytes new.reader) (sym (unkept_bytes device old g (came loses.takes) refl refl (follows (Some fault) []) (kept_on loses.takes) unkept.says unkept.is)) (record {
+          r = unkept.item;
+          first = given_first device old (view_with sorting None now mid.lookahead []) (view_with sorting (Some fault) new.reader new.lookahead []) line g (came loses.takes) unkept.item unkept.says;
+          said = rw (← g.format, ← g.state) (line, unkept.says);
+          elsewhere = rw (← g.state) (rw unkept.says at loses.elsewhere);
+        });
+      }
     ]
 
     -- it wasn't taken
-    pub sorted_lost : (fault : Fault) → LosesLine device sorting mid line (fault_value fault) new → Fills device old (Err fault) (view_with sorting (Some (fault_value fault)) new.reader new.lookahead [])
+    pub sorted_lost : (fault : Fault) → LosesLine device sorting mid line (fault_value fault) new → FillsByName device old (Err fault) (view_with sorting (Some (fault_value fault)) new.reader new.lookahead [])
     unfolding view_with
     sorted_lost fault loses = record {
-      answers = lost_by (fault_value fault) loses.takes loses.cause;
-      kept = λ was. kept_on loses.takes (g.passed.kept was);
+      fills = record {
+        answers = (lost_by (fault_value fault) loses).answers;
+        kept = λ was. kept_on loses.takes (g.passed.kept was);
+      };
+      for_name = λ going is none. (lost_by (fault_value fault) loses).for_name is;
     }
-
-    unkept_by : (fault : FaultValue) → LosesLine device sorting mid line fault new → fault ≡ no_memory → NameUnkept device old new.reader
-    unfolding view_with
-    unkept_by fault loses is = elim (lost_parts (record { input = input_of mid.reader; line = line.number }) (line_says sorting (last_in mid.lookahead) line.text) fault loses.cause) [
-      | inl wrong ↦
-          absurd (let other = ap (λ (f : FaultValue). f.place) (sym wrong.is ∙ is) in cc)
-      | inr unkept ↦
-          record {
-            bytes = (g.passed.bytes.0 ++ (came loses.takes).bytes.0, hands_both device old.below now new.reader g.passed.bytes.0 (came loses.takes).bytes.0 g.passed.bytes.1 (came loses.takes).bytes.1);
-            r = unkept.item;
-            first = given_first device old (view_with sorting None now mid.lookahead []) (view_with sorting (Some fault) new.reader new.lookahead []) line g (came loses.takes) unkept.item unkept.says;
-            said = rw (← g.format, ← g.state) (line, unkept.says);
-            elsewhere = rw (← g.state) (rw unkept.says at loses.elsewhere);
-          }
-    ]
-
-    -- it wasn't taken, and it wasn't at fault
-    pub sorted_unkept : (fault : Fault) → LosesLine device sorting mid line (fault_value fault) new → fault_value fault ≡ no_memory → NameUnkept device old new.reader
-    sorted_unkept fault loses is = unkept_by (fault_value fault) loses is
 
   module _ (old : MemberReader S Feature (Option Locus)) (now new : LineReader S) (lookahead : OrderedLookahead Q) (kept : IsKept device now → IsKept device new) (g : Going device old (view_with sorting None now lookahead [])) where
     alike : (own : Option FaultValue) → (view_with sorting own new lookahead []).below ≡ (view_with sorting None now lookahead []).below → (view_with sorting own new lookahead []).fault ≡ (view_with sorting None now lookahead []).fault
@@ -357,19 +357,25 @@ module _ {S Q : Type 0} (device : Source S) (sorting : Sorting) where
     alike own reader fault = let both : new ≡ now = reader in rw (fault, both) refl
 
     -- the line couldn't be read
-    pub sorted_unread : (fault : Fault) → GivesFault device now (fault_value fault) new → Fills device old (Err fault) (view_with sorting (Some (fault_value fault)) new lookahead [])
+    pub sorted_unread : (fault : Fault) → GivesFault device now (fault_value fault) new → FillsByName device old (Err fault) (view_with sorting (Some (fault_value fault)) new lookahead [])
     unfolding view_with
     sorted_unread fault gives = record {
-      answers = going_unread device old (view_with sorting None now lookahead []) (view_with sorting (Some (fault_value fault)) new lookahead []) (fault_value fault) g gives refl refl (record { state = refl; format = refl }) (alike (Some (fault_value fault)));
-      kept = λ was. kept (g.passed.kept was);
+      fills = record {
+        answers = going_unread device old (view_with sorting None now lookahead []) (view_with sorting (Some (fault_value fault)) new lookahead []) (fault_value fault) g gives refl refl (record { state = refl; format = refl }) (alike (Some (fault_value fault)));
+        kept = λ was. kept (g.passed.kept was);
+      };
+      for_name = λ going is none. absurd (let apart : None ≡ Some (fault_value fault) = sym none ∙ gives.kept in cc);
     }
 
     -- no line was left
-    pub sorted_end : GivesEnd device now new → Fills device old (Ok false) (view_with sorting None new lookahead [])
+    pub sorted_end : GivesEnd device now new → FillsByName device old (Ok false) (view_with sorting None new lookahead [])
     unfolding view_with
     sorted_end gives = record {
-      answers = going_end device old (view_with sorting None now lookahead []) (view_with sorting None new lookahead []) g gives refl refl (record { state = refl; format = refl }) (alike None);
-      kept = λ was. kept (g.passed.kept was);
+      fills = record {
+        answers = going_end device old (view_with sorting None now lookahead []) (view_with sorting None new lookahead []) g gives refl refl (record { state = refl; format = refl }) (alike None);
+        kept = λ was. kept (g.passed.kept was);
+      };
+      for_name = tt;
     }
 
 -- if no record is known to be ahead, none is buffered
@@ -388,7 +394,7 @@ module _ {S Q : Type 0} (device : Source S) (sorting : Sorting) where
     there answer taken = subst (λ s. TakesFirst device s mid answer new) same taken
 
     module _ (old : MemberReader S Feature (Option Locus)) (now : LineReader S) (makes : MakesLine device now mid.reader) (kept : IsKept device now → IsKept device mid.reader) (g : Going device old (view_with sorting None now mid.lookahead [])) where
-      pub taken_record : TakesFirst device rules mid (Ok true) new → Fills device old (Ok true) (view_with sorting None new.reader new.lookahead (buffered_in new))
+      pub taken_record : TakesFirst device rules mid (Ok true) new → FillsByName device old (Ok true) (view_with sorting None new.reader new.lookahead (buffered_in new))
       taken_record taken =
           let first = there (Ok true) taken in
           sorted_record device sorting mid new makes kept g first.first first.keeps first.takes
@@ -398,16 +404,10 @@ module _ {S Q : Type 0} (device : Source S) (sorting : Sorting) where
           let first = there (Ok false) taken in
           sorted_more device sorting mid new makes kept g first.first first.keeps first.takes
 
-      pub taken_fault : (fault : Fault) → TakesFirst device rules mid (Err fault) new → Fills device old (Err fault) (view_with sorting (Some (fault_value fault)) new.reader new.lookahead (buffered_in new))
+      pub taken_fault : (fault : Fault) → TakesFirst device rules mid (Err fault) new → FillsByName device old (Err fault) (view_with sorting (Some (fault_value fault)) new.reader new.lookahead (buffered_in new))
       taken_fault fault taken =
           let first = there (Err fault) taken in
           rw (none_buffered new first.takes.none) (sorted_lost device sorting mid new makes kept g first.first first.keeps fault first.takes)
-
-      -- if memory ran out for it
-      pub taken_unkept : (fault : Fault) → TakesFirst device rules mid (Err fault) new → RunsOutForName {T = Bool} device old (Err fault) new.reader
-      taken_unkept fault taken = λ going is none.
-          let first = there (Err fault) taken in
-          sorted_unkept device sorting mid new makes kept g first.first first.keeps fault first.takes is
 
 module _ {S Q : Type 0} (sorted : SortedReader S Q) (some : sorted.is_ahead ≡ true) where
   ahead_parts : (r : Feature) × (more : List Feature) × (buffered_in sorted ≡ r ∷ more)
@@ -434,18 +434,21 @@ module _ {S Q : Type 0} (sorted : SortedReader S Q) (some : sorted.is_ahead ≡ 
     going_below own kept e = grind arith
 
     -- the record ahead is given again
-    pub sorted_again : Fills device (view_in sorting sorted) (Ok true) (view_in sorting sorted)
+    pub sorted_again : FillsByName device (view_in sorting sorted) (Ok true) (view_in sorting sorted)
     unfolding view_with
     sorted_again =
         let says = says_again sorting (last_in sorted.lookahead) first_is.line.text said_first.0.0.text ahead_parts.0 said_first.0.1 first_is.says in
         record {
-          answers = (
-            record { line = first_is.line.number; item = ahead_parts.0 },
-            gives_again device (view_in sorting sorted) first_is.line first_is.more ahead_parts.0 ahead_parts.1 (placed.going (ap is_some_left ahead_parts.2))
+          fills = record {
+            answers = (
+              record { line = first_is.line.number; item = ahead_parts.0 },
+              gives_again device (view_in sorting sorted) first_is.line first_is.more ahead_parts.0 ahead_parts.1 (placed.going (ap is_some_left ahead_parts.2))
                 (going_below (option_map fault_value sorted.fault) (line_fault sorted.reader) (placed.going (ap is_some_left ahead_parts.2)))
                 (next_bytes sorted.reader first_is.line first_is.more first_is.lines_are) first_is.lines_are (next_number sorted.reader first_is.line first_is.more first_is.lines_are) says ahead_parts.2,
-          );
-          kept = λ was. was;
+            );
+            kept = λ was. was;
+          };
+          for_name = tt;
         }
 
 -- a fault is returned again
@@ -465,9 +468,12 @@ fails_again device reader fault is none = record {
 }
 
 pub sorted_fails : {S Q : Type 0} (device : Source S) (sorting : Sorting) (sorted : SortedReader S Q) (fault : Fault) → sorted.is_ahead ≡ false → sorted.fault ≡ Some fault
-    → Fills device (view_in sorting sorted) (Err fault) (view_in sorting sorted)
+    → FillsByName device (view_in sorting sorted) (Err fault) (view_in sorting sorted)
 unfolding view_with buffered_in
-sorted_fails device sorting sorted fault none is = record { answers = fails_again device (view_in sorting sorted) (fault_value fault) (rw is refl) (rw none refl); kept = λ was. was }
+sorted_fails device sorting sorted fault none is = record {
+  fills = record { answers = fails_again device (view_in sorting sorted) (fault_value fault) (rw is refl) (rw none refl); kept = λ was. was };
+  for_name = λ going. absurd (let apart : ◌≡◌ {A = Option FaultValue} (Some (fault_value fault)) None = sym (rw is refl) ∙ going in cc);
+}
 
 -- `peek` is `fill` and the first of what is buffered
 module _ {S : Type 0} (device : Source S) (Next : Feature → Type 0) (Keeps : Type 0) (old new : MemberReader S Feature (Option Locus)) where
@@ -481,3 +487,11 @@ module _ {S : Type 0} (device : Source S) (Next : Feature → Type 0) (Keeps : T
   pub peeks_by : (answer : Result Bool Fault) (is_some : Bool) (first : Option BedRef) → answer ≡ Ok is_some → FillsSorted device Next Keeps old new answer
       → IfSome first (λ bed. (more : List Feature) × (new.buffered ≡ feature_lent bed ∷ more)) → IfNone first (new.buffered ≡ []) → PeeksSorted device Next Keeps old new (Ok first)
   peeks_by answer is_some first e fills = peeks_at is_some first (subst (λ (r : Result Bool Fault). FillsSorted device Next Keeps old new r) e fills)
+
+  fails_at : (fault : Fault) → FillsSorted device Next Keeps old new (Err fault) → PeeksSorted device Next Keeps old new (Err fault)
+  fails_at fault fills = record { answers = fills.answers; next = fills.next; for_name = fills.for_name; kept = fills.kept; order = fills.order }
+
+  -- and a fault that it returns
+  pub peek_fails : (answer : Result Bool Fault) (peeked : Result (Option BedRef) Fault) (fault : Fault) → answer ≡ Err fault → IsErrAnd peeked (λ e. e ≡ fault) → FillsSorted device Next Keeps old new answer → PeeksSorted device Next Keeps old new peeked
+  peek_fails answer peeked fault e is fills =
+      passed_on (λ (r : Result (Option BedRef) Fault). PeeksSorted device Next Keeps old new r) peeked fault is (fails_at fault (subst (λ (r : Result Bool Fault). FillsSorted device Next Keeps old new r) e fills))

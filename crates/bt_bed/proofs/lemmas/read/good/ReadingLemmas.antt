@@ -147,12 +147,14 @@ module _ {S : Type 0} (device : Source S) where
     near_fault fault gives going = near_pass device old now new p.bytes.0 gives.bytes.0 gives.bytes.1 p.lines (gives.near going) p.least (omega (arith, gives.counted))
 
     -- the line feeds among the bytes taken all end lines that were given
-    pub cut_fault : (fault : FaultValue) → GivesFault device now fault new → fault_kept now ≡ None → fault ≡ read_failed (input_of now) (suc (lines_given now)) → IsKept device old → CutsOff device old new
+    pub cut_fault : (fault : FaultValue) (gives : GivesFault device now fault new) → fault_kept now ≡ None → fault ≡ read_failed (input_of now) (suc (lines_given now)) → IsKept device old → CutsOff old (p.bytes.0 ++ gives.bytes.0) new
     cut_fault fault gives going is kept =
-        let cut = gives.cut_off going is in
         let within : bytes_taken now < 2 ^ 63 = (p.kept kept).within going in
-        let front = front_of_both p.bytes.0 cut.bytes (2 ^ 63 - 1 - bytes_taken old) (2 ^ 63 - 1 - bytes_taken now) (omega arith) in
-        grind (arith, (hands_both device old now new p.bytes.0 cut.bytes p.bytes.1 cut.hands), (line_feeds-append p.bytes.0 (take (2 ^ 63 - 1 - bytes_taken now) cut.bytes)))
+        let fed = p.bytes.1.fed (gives.before_end going) within in
+        let counted = p.bytes.1.counted in
+        let given = gives.cut_off going is in
+        let front = front_of_both p.bytes.0 gives.bytes.0 (2 ^ 63 - 1 - bytes_taken old) (2 ^ 63 - 1 - bytes_taken now) (omega arith) in
+        grind (arith, (line_feeds-append p.bytes.0 (take (2 ^ 63 - 1 - bytes_taken now) gives.bytes.0)))
 
 -- the lines that come are numbered on from those given
 pub numbered_coming : {S : Type 0} (reader : LineReader S) (rest : List ℕ) → AreNumbered (suc (lines_given reader)) (lines_coming rest reader)
@@ -435,6 +437,12 @@ module _ {S A State : Type 0} (device : Source S) where
       pub going_unkept : new.fault ≡ Some fault → new.buffered ≡ [] → Follows now new → (IsKept device now.below → IsKept device new.below) → {item : A}
           → now.format.says now.state line ≡ Ok (Some item) → fault ≡ no_memory → AnswersFault device old fault new
       going_unkept kept ahead follows sound {item} says is = lost_by kept ahead follows sound (inr (inr (unkept_cause item says is)))
+
+      -- once these bytes were handed over
+      pub unkept_bytes : (kept : new.fault ≡ Some fault) (ahead : new.buffered ≡ []) (follows : Follows now new) (sound : IsKept device now.below → IsKept device new.below) {item : A}
+          (says : now.format.says now.state line ≡ Ok (Some item)) (is : fault ≡ no_memory) → (going_unkept kept ahead follows sound says is).stays.bytes.0 ≡ g.passed.bytes.0 ++ gives.bytes.0
+      unfolding going_unkept lost_by
+      unkept_bytes kept ahead follows sound says is = refl
 
     -- the line couldn't be read
     module _ (now new : MemberReader S A State) (fault : FaultValue) (g : Going old now) (gives : GivesFault device now.below fault new.below) where

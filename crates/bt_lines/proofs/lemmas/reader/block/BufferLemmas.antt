@@ -9,8 +9,8 @@ use Rattle.bt_lines.specs.calls.Columns.{IsBefore}
 use Rattle.bt_lines.specs.calls.Line.{NoLineFeed, line_feeds}
 use Rattle.bt_lines.specs.inside.Shape.{AreComplete, IsSearched, is_fed}
 use Rattle.bt_lines.specs.declared.device.Source.{Ghosts as Source}
-use Rattle.bt_lines.proofs.lemmas.reader.block.ReadsLemmas.{fails_later, reads_then}
-use Rattle.bt_lines.specs.calls.Device.{FailsAfter, ReadsOn, begun}
+use Rattle.bt_lines.proofs.lemmas.reader.block.ReadsLemmas.{ends_later, fails_later, reads_ended, reads_then}
+use Rattle.bt_lines.specs.calls.Device.{EndsAfter, FailsAfter, ReadsOn, begun}
 use Rattle.bt_lines.specs.inside.Spill.{AreHanded, AsksMore, Buffers, StopsWith, closed, uncounted, uncounted_more}
 use Rattle.bt_lines.specs.declared.reader.spill.More.TheVariants.{Bytes, NoBytes, BadRead, PastBound}
 use Rattle.bt_lines.specs.declared.reader.spill.Stop.{Stop}
@@ -270,6 +270,9 @@ module _ {S : Type 0} (device : Source S) where
       fails : (new : S) (next : List ℕ) → FailsAfter device.is_read mid next new → FailsAfter device.is_read old (so_far.bytes ++ next) new
       fails new next reads = fails_later device.is_read so_far.handed reads
 
+      ends : (new : S) (next : List ℕ) → EndsAfter device.is_read mid next new → EndsAfter device.is_read old (so_far.bytes ++ next) new
+      ends new next reads = ends_later device.is_read so_far.handed reads
+
       all : (next : List ℕ) → old_unread ++ (so_far.bytes ++ next) ≡ same ++ next
       all next = sym (append_assoc old_unread so_far.bytes next) ∙ ap (λ l. l ++ next) (sym so_far.joined ∙ sym is)
 
@@ -285,7 +288,7 @@ module _ {S : Type 0} (device : Source S) where
 
       on_stop : (stop : Stop) (new : S) (next : List ℕ) → AreHanded device.is_read stop mid next new → AreHanded device.is_read stop old (so_far.bytes ++ next) new
       on_stop LineFeed new next reads = on new next reads
-      on_stop End new next reads = on new next reads
+      on_stop End new next reads = ends new next reads
       on_stop Failed new next reads = fails new next reads
       on_stop TooLong new next reads = on new next reads
       on_stop NoMemory new next reads = on new next reads
@@ -300,7 +303,7 @@ module _ {S : Type 0} (device : Source S) where
           → complete ≡ closed next_unread → rest ≡ [] → Buffers device old old_unread old_taken End new complete rest next_taken
       text_ended new next_unread next_taken complete rest asks lines none =
           let is = none_more asks.bytes asks.came.0 in
-          stops_by End new asks.bytes complete rest next_taken asks.consumed (on new asks.bytes asks.handed) asks.counted asks.within
+          stops_by End new asks.bytes complete rest next_taken asks.consumed (ends new asks.bytes asks.handed) asks.counted asks.within
           (rw is clear, lines ∙ ap closed (asks.came.1 ∙ sym is), none, asks.came.2 ∙ so_far.served, asks.came.3, asks.came.4)
 
       pub source_failed : (new : S) (next_unread : List ℕ) (next_taken : ℕ) (complete : List ℕ) → AsksMore device mid same taken BadRead new next_unread next_taken
@@ -418,6 +421,9 @@ module _ {S : Type 0} (device : Source S) where
             failed_more : FailsAfter device.is_read mid next new → FailsAfter device.is_read old (so_far.bytes ++ next) new
             failed_more reads = fails_later device.is_read so_far.handed reads
 
+            ended_more : EndsAfter device.is_read mid next new → EndsAfter device.is_read old (so_far.bytes ++ next) new
+            ended_more reads = ends_later device.is_read so_far.handed reads
+
             count : length (so_far.bytes ++ next) ≡ length so_far.bytes + length next
             count = length-append so_far.bytes next
 
@@ -436,13 +442,13 @@ module _ {S : Type 0} (device : Source S) where
               → Buffers device old old_block old_taken End new complete rest next_taken
           none_came {complete} {rest} asks lines same =
               let is = all_read asks.bytes asks.came.0 in
-              more_by End NoBytes complete rest asks refl (handed_more asks.bytes asks.consumed asks.handed) (rw is no_feed, rw is (lines ∙ sym (closed_some new_text some_text)), same ∙ asks.came.1 ∙ empty, asks.came.2 ∙ so_far.served, asks.came.3, asks.came.4)
+              more_by End NoBytes complete rest asks refl (ended_more asks.bytes asks.consumed asks.handed) (rw is no_feed, rw is (lines ∙ sym (closed_some new_text some_text)), same ∙ asks.came.1 ∙ empty, asks.came.2 ∙ so_far.served, asks.came.3, asks.came.4)
 
           -- it has, and the line couldn't take its line feed
           pub none_refused : {complete rest : List ℕ} → AsksMore device mid new_block taken NoBytes new next_block next_taken → complete ≡ [] → rest ≡ next_block
               → Buffers device old old_block old_taken NoMemory new complete rest next_taken
           none_refused {complete} {rest} asks none same =
-              more_by NoMemory NoBytes complete rest asks refl (handed_more asks.bytes asks.consumed asks.handed)
+              more_by NoMemory NoBytes complete rest asks refl (handed_more asks.bytes asks.consumed (reads_ended device.is_read asks.handed))
               ((new_text, no_feed, more asks.bytes ∙ ap (λ l. new_text ++ l) (asks.came.0 ∙ sym (same ∙ asks.came.1 ∙ empty))), none, asks.came.2 ∙ so_far.served)
 
           pub read_failed : {complete : List ℕ} → AsksMore device mid new_block taken BadRead new next_block next_taken → complete ≡ [] → Buffers device old old_block old_taken Failed new complete next_block next_taken

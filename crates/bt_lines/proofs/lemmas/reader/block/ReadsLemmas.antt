@@ -1,13 +1,13 @@
 -- Lemmas on what the reads of a source handed over.
 use Rattle.bt_lines.proofs.Std.{◌∙◌, ◌≡◌, ◌⊎◌, ℕ, ◌+◌, ◌^◌, ◌<◌, ◌≤◌, true, false, false≢true, List, [], ◌++◌, inl, inr, length, refl, subst, IfSome, IsSome, IsAtEnd, Bool, Consumes, Consumes-nil, Consumes-trans, Option, Some, None, sym, ap, add-zero, append-nil, append_assoc, length-append, arith}
 use Rattle.bt_lines.specs.calls.Line.{line_feeds}
-use Rattle.bt_lines.specs.calls.Device.{FailsAfter, ReadsOn, begun, gave}
+use Rattle.bt_lines.specs.calls.Device.{EndsAfter, FailsAfter, ReadsOn, begun, gave}
 use Rattle.bt_lines.specs.model.Fault.{FaultValue, read_failed}
 use Rattle.bt_lines.specs.calls.Faults.{no_memory}
 use Rattle.bt_lines.specs.declared.fault.Input.{Input}
 use Rattle.bt_lines.specs.declared.fault.Kind.TheVariants.{NoMemory as OutOfMemory, ReadFailed}
 use Rattle.bt_lines.proofs.lemmas.reader.lines.TextLemmas.{line_feeds-append}
-use Rattle.bt_lines.specs.calls.Reader.{AreRead, EndsKnown, Hands, IsReadFailed, MayStillCome, bytes_taken, end_told, fault_kept, feeds_taken, input_of, source_of}
+use Rattle.bt_lines.specs.calls.Reader.{AreRead, EndsKnown, EndsReads, Hands, IsReadFailed, MayStillCome, bytes_taken, end_told, fault_kept, feeds_taken, input_of, source_of}
 use Rattle.bt_lines.specs.declared.device.Source.{Ghosts as Source}
 use Rattle.bt_lines.specs.declared.reader.line_reader.LineReader.{LineReader}
 
@@ -21,6 +21,14 @@ module _ {S : Type 0} (IsRead : S → Option (List ℕ) → S → Type 0) where
   pub fails_later : {a b c : S} {x y : List ℕ} → ReadsOn IsRead a x b → FailsAfter IsRead b y c → FailsAfter IsRead a (x ++ y) c
   fails_later one two = record { before = two.before; served = reads_then one two.served; fails = two.fails }
 
+  -- or one that reported the end
+  pub ends_later : {a b c : S} {x y : List ℕ} → ReadsOn IsRead a x b → EndsAfter IsRead b y c → EndsAfter IsRead a (x ++ y) c
+  ends_later one two = record { before = two.before; served = reads_then one two.served; tells = two.tells }
+
+  -- which succeeded
+  pub reads_ended : {a b : S} {x : List ℕ} → EndsAfter IsRead a x b → ReadsOn IsRead a x b
+  reads_ended {a} {b} {x} ends = subst (λ (l : List ℕ). ReadsOn IsRead a l b) (append-nil x) (gave ends.served [] b ends.tells)
+
   -- none
   pub reads_nothing : (a b : S) → b ≡ a → ReadsOn IsRead a [] b
   reads_nothing a b same = rw same begun
@@ -33,6 +41,12 @@ module _ {S : Type 0} (IsRead : S → Option (List ℕ) → S → Type 0) where
     where
       reads_nothing_as : none ≡ [] → ReadsOn IsRead a none a
       reads_nothing_as e = rw e begun
+
+  pub ends_once : (a b : S) (none : List ℕ) → none ≡ [] → IsRead a (Some none) b → EndsAfter IsRead a none b
+  ends_once a b none empty tells = record { before = a; served = nothing_as empty; tells = subst (λ (l : List ℕ). IsRead a (Some l) b) empty tells }
+    where
+      nothing_as : none ≡ [] → ReadsOn IsRead a none a
+      nothing_as e = rw e begun
 
 -- out of memory is no failed read
 pub memory_no_read : (input : Input) (line : ℕ) → no_memory ≡ read_failed input line → ⊥
@@ -91,39 +105,58 @@ module _ {S : Type 0} (device : Source S) where
     unfolding AreRead
     read_up_to fails kept = inr (fails, kept)
 
+    abbrev pub Ends : Type 0
+    Ends = EndsKnown device old bytes new
+        × (end_told old ≡ false → end_told new ≡ true → EndsAfter device.is_read (source_of old) bytes (source_of new))
+
     -- the end isn't reported
-    pub ends_untold : end_told old ≡ false → end_told new ≡ false → EndsKnown device old bytes new
+    pub ends_untold : end_told old ≡ false → end_told new ≡ false → Ends
     unfolding EndsKnown
-    ends_untold was is = (λ told. absurd (false≢true (sym was ∙ told)), λ untold told. absurd (false≢true (sym is ∙ told)))
+    ends_untold was is = (
+      (λ told. absurd (false≢true (sym was ∙ told)), λ untold told. absurd (false≢true (sym is ∙ told))),
+      λ untold told. absurd (false≢true (sym is ∙ told)),
+    )
 
     -- it is, and no known byte is left
-    pub ends_told : end_told old ≡ false → Consumes (device.left (source_of old)) (device.left (source_of new)) bytes → IsAtEnd (device.left (source_of new)) → EndsKnown device old bytes new
+    pub ends_told : end_told old ≡ false → Consumes (device.left (source_of old)) (device.left (source_of new)) bytes → IsAtEnd (device.left (source_of new)) → EndsAfter device.is_read (source_of old) bytes (source_of new) → Ends
     unfolding EndsKnown
-    ends_told was consumed at_end = (λ told. absurd (false≢true (sym was ∙ told)), λ untold told. consumed_all (device.left (source_of old)) (device.left (source_of new)) bytes consumed at_end)
+    ends_told was consumed at_end reads = (
+      (λ told. absurd (false≢true (sym was ∙ told)), λ untold told. consumed_all (device.left (source_of old)) (device.left (source_of new)) bytes consumed at_end),
+      λ untold told. reads,
+    )
 
     -- before any fault
     pub hands_by : fault_kept old ≡ None → AreRead device old bytes new → Consumes (device.left (source_of old)) (device.left (source_of new)) bytes → bytes_taken new ≡ bytes_taken old + length bytes
-        → input_of new ≡ input_of old → (end_told new ≡ false → bytes_taken new < 2 ^ 63 → feeds_taken new ≡ feeds_taken old + line_feeds bytes) → (end_told old ≡ true → end_told new ≡ true) → EndsKnown device old bytes new → Hands device old bytes new
-    hands_by going reads consumed counted input feeds told ends = record {
+        → input_of new ≡ input_of old → (end_told new ≡ false → bytes_taken new < 2 ^ 63 → feeds_taken new ≡ feeds_taken old + line_feeds bytes) → end_told old ≡ false → Ends → Hands device old bytes new
+    unfolding EndsReads
+    hands_by going reads consumed counted input feeds untold ends = record {
       reads = reads;
-      ends = ends;
+      ends = ends.0;
+      ends_reads = ends_by untold going ends.1;
       stops = λ some. absurd (no_fault (fault_kept old) going some);
       left_over = consumed;
       counted = counted;
       same_input = input;
       fed = feeds;
-      told_stays = told;
+      told_stays = λ told. absurd (false≢true (sym untold ∙ told));
     }
+      where
+        ends_by : end_told old ≡ false → fault_kept old ≡ None → (end_told old ≡ false → end_told new ≡ true → EndsAfter device.is_read (source_of old) bytes (source_of new)) → EndsReads device old bytes new
+        ends_by untold going reads = (λ told. absurd (false≢true (sym untold ∙ told)), reads, λ some. absurd (no_fault (fault_kept old) going some))
 
     -- and none is kept
     pub hands_on : fault_kept old ≡ None → fault_kept new ≡ None → ReadsOn device.is_read (source_of old) bytes (source_of new) → Consumes (device.left (source_of old)) (device.left (source_of new)) bytes
         → bytes_taken new ≡ bytes_taken old + length bytes → input_of new ≡ input_of old → (end_told new ≡ false → bytes_taken new < 2 ^ 63 → feeds_taken new ≡ feeds_taken old + line_feeds bytes)
-        → (end_told old ≡ true → end_told new ≡ true) → EndsKnown device old bytes new → Hands device old bytes new
+        → end_told old ≡ false → Ends → Hands device old bytes new
     hands_on was is reads = hands_by was (read_on reads (λ none failed. absurd (none_failed (fault_kept new) is failed)))
 
   ends_still : (old new : LineReader S) → end_told new ≡ end_told old → EndsKnown device old [] new
   unfolding EndsKnown
   ends_still old new same = (λ told. refl, λ untold told. absurd (false≢true (sym untold ∙ sym same ∙ told)))
+
+  reads_still : (old new : LineReader S) → source_of new ≡ source_of old → end_told new ≡ end_told old → EndsReads device old [] new
+  unfolding EndsReads
+  reads_still old new source same = (λ told. source, λ untold told. absurd (false≢true (sym untold ∙ sym same ∙ told)), λ some. same)
 
   -- nothing was handed over
   pub hands_still : (old new : LineReader S) → source_of new ≡ source_of old → bytes_taken new ≡ bytes_taken old → input_of new ≡ input_of old
@@ -131,6 +164,7 @@ module _ {S : Type 0} (device : Source S) where
   hands_still old new same taken input feeds told kept = record {
     reads = read_on old new [] (reads_nothing device.is_read (source_of old) (source_of new) same) (λ none failed. absurd (none_failed (fault_kept new) (kept ∙ none) failed));
     ends = ends_still old new told;
+    ends_reads = reads_still old new same told;
     stops = λ some. (refl, same, kept);
     left_over = rw same (Consumes-nil (device.left (source_of old)));
     counted = taken ∙ sym (add-zero (bytes_taken old));
@@ -180,6 +214,19 @@ module _ {S : Type 0} (device : Source S) where
         go untold told (inl was) = all_before (device.left (source_of old)) first second (p.ends.1 untold was) (q.ends.0 was)
         go untold told (inr was) = all_then (device.left (source_of old)) (device.left (source_of mid)) first second p.left_over (q.ends.1 was told)
 
+    reads_ends_joined : EndsReads device old (first ++ second) new
+    unfolding EndsReads EndsKnown AreRead
+    reads_ends_joined = (
+      λ told. q.ends_reads.0 (p.told_stays told) ∙ p.ends_reads.0 told,
+      λ untold told. go untold told (told_or_not (end_told mid)) p.reads,
+      λ some. q.ends_reads.2 (subst (λ (o : Option FaultValue). IsSome o) (sym (p.stops some).2) some) ∙ p.ends_reads.2 some,
+    )
+      where
+        go : end_told old ≡ false → end_told new ≡ true → (end_told mid ≡ true) ⊎ (end_told mid ≡ false) → AreRead device old first mid → EndsAfter device.is_read (source_of old) (first ++ second) (source_of new)
+        go untold told (inl was) reads = rw (q.ends.0 was, append-nil first, q.ends_reads.0 was) (p.ends_reads.1 untold was)
+        go untold told (inr was) (inl on) = ends_later device.is_read on.0 (q.ends_reads.1 was told)
+        go untold told (inr was) (inr fails) = absurd (false≢true (sym was ∙ sym (q.ends_reads.2 (rw fails.1.2 refl)) ∙ told))
+
     stops_joined : IsSome (fault_kept old) → (first ++ second ≡ []) × (source_of new ≡ source_of old) × (fault_kept new ≡ fault_kept old)
     stops_joined some =
         let one = p.stops some in
@@ -190,6 +237,7 @@ module _ {S : Type 0} (device : Source S) where
   hands_both old mid new first second p q = record {
     reads = reads_joined p q;
     ends = ends_joined p q;
+    ends_reads = reads_ends_joined p q;
     stops = stops_joined p q;
     left_over = Consumes-trans (device.left (source_of old)) (device.left (source_of mid)) (device.left (source_of new)) first second p.left_over q.left_over;
     counted = omega (arith, p.counted, q.counted, length-append first second);

@@ -21,10 +21,6 @@ abbrev pub DropsLines : Option (List TextLine) → ℕ → Option (List TextLine
 DropsLines None count new = Unit {0}
 DropsLines (Some lines) count new = new ≡ Some (drop count lines)
 
--- of known lines, those left after one was given are the others
-pub given_drops : (old : Option (List TextLine)) (line : TextLine) (new : Option (List TextLine)) → GivesFirst old line new → IfSome old (λ lines. new ≡ Some (drop 1 lines))
-given_drops old line new h = grind arith
-
 -- what is so of the lines before a call and after it, if they are known
 abbrev pub BothLeft : (List TextLine → List TextLine → Type 0) → Option (List TextLine) → Option (List TextLine) → Type 0
 BothLeft P a b = IfSome a (λ before. (after : List TextLine) × (b ≡ Some after) × P before after)

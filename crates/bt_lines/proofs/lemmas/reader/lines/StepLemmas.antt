@@ -8,13 +8,13 @@ use Rattle.bt_lines.specs.model.Lines.{TextLine, fed_line, last_line, lines_from
 use Rattle.bt_lines.specs.model.Fault.{read_failed}
 use Rattle.bt_lines.specs.calls.Faults.{no_memory}
 use Rattle.bt_lines.specs.inside.Shape.{held_at, IsLast}
-use Rattle.bt_lines.proofs.lemmas.reader.block.ReadsLemmas.{ends_told, ends_untold, hands_by, hands_on, hands_still, memory_failed, read_on, read_up_to}
-use Rattle.bt_lines.specs.calls.Device.{ReadsOn}
+use Rattle.bt_lines.proofs.lemmas.reader.block.ReadsLemmas.{Ends, reads_ended, ends_told, ends_untold, hands_by, hands_on, hands_still, memory_failed, read_on, read_up_to}
+use Rattle.bt_lines.specs.calls.Device.{EndsAfter, ReadsOn}
 use Rattle.bt_lines.specs.inside.Spill.{Buffers, closed}
 use Rattle.bt_lines.specs.calls.Output.{block_size}
 use Rattle.bt_lines.specs.calls.Line.{NoLineFeed, line_feeds}
 use Rattle.bt_lines.specs.calls.Names.{fault_value}
-use Rattle.bt_lines.specs.calls.Reader.{AreRead, EndsKnown, FillsLines, IsKept, IsSound, buffered_bytes, Hands, IsNear, FailsToRead, end_told, GivesLine, source_of, input_of, lines_given, bytes_taken, held, fault_kept, has_ended, feeds_taken, lines_coming, MayStillCome}
+use Rattle.bt_lines.specs.calls.Reader.{CutsOff, AreRead, FillsLines, IsKept, IsSound, buffered_bytes, Hands, IsNear, FailsToRead, end_told, GivesLine, source_of, input_of, lines_given, bytes_taken, held, fault_kept, has_ended, feeds_taken, lines_coming, MayStillCome}
 use Rattle.bt_lines.specs.declared.fault.Fault.{Fault}
 use Rattle.bt_lines.specs.declared.fault.Input.{Input}
 use Rattle.bt_lines.specs.declared.reader.spill.Stop.{Stop}
@@ -73,7 +73,7 @@ module _ {S : Type 0} (device : Source S) {old : LineReader S} (new : LineReader
   fed_feeds = grind (arith, line_feeds-append, line_feeds-fed)
 
   fed_hands : Hands device old bytes new
-  fed_hands = hands_on device old new bytes was.good is.good reads consumed (omega (arith, is.taken, was.taken, counted)) same (λ untold below. fed_feeds) (λ e. absurd (false≢true (sym was.untold ∙ e))) (ends_untold device old new bytes was.untold is.untold)
+  fed_hands = hands_on device old new bytes was.good is.good reads consumed (omega (arith, is.taken, was.taken, counted)) same (λ untold below. fed_feeds) was.untold (ends_untold device old new bytes was.untold is.untold)
 
   fed_held : held old ++ bytes ≡ spelled (fed_line (suc (lines_given old)) piece) ++ held new
   fed_held = grind (arith, (spelled-fed (suc (lines_given old)) piece), (append_assoc piece (10 ∷ []) (held new)))
@@ -158,10 +158,10 @@ module _ {S : Type 0} (device : Source S) (old new : LineReader S) (bytes : List
   unfolding feeds_taken
   made_feeds = grind (arith, line_feeds-append)
 
-  made_hands : EndsKnown device old bytes new → Hands device old bytes new
-  made_hands = hands_on device old new bytes was.good good reads consumed taken same (λ untold below. made_feeds) (λ e. absurd (false≢true (sym was.untold ∙ e)))
+  made_hands : Ends device old new bytes → Hands device old bytes new
+  made_hands = hands_on device old new bytes was.good good reads consumed taken same (λ untold below. made_feeds) was.untold
 
-  makes : EndsKnown device old bytes new → (end_told new ≡ true → (device.end_told (source_of new) ≡ true) × IsAtEnd (device.left (source_of new))) → FillsLines device old (Ok true) new
+  makes : Ends device old new bytes → (end_told new ≡ true → (device.end_told (source_of new) ≡ true) × IsAtEnd (device.left (source_of new))) → FillsLines device old (Ok true) new
   makes ends told = record {
     answers = record {
       some = some;
@@ -180,17 +180,17 @@ module _ {S : Type 0} (device : Source S) (old new : LineReader S) (bytes : List
   pub makes_line : end_told new ≡ false → FillsLines device old (Ok true) new
   makes_line untold = makes (ends_untold device old new bytes was.untold untold) (λ told. absurd (false≢true (sym untold ∙ told)))
 
-  pub makes_last : end_told new ≡ true → device.end_told (source_of new) ≡ true → IsAtEnd (device.left (source_of new)) → FillsLines device old (Ok true) new
-  makes_last is_told told none = makes (ends_told device old new bytes was.untold consumed none) (λ e. (told, none))
+  pub makes_last : end_told new ≡ true → device.end_told (source_of new) ≡ true → IsAtEnd (device.left (source_of new)) → EndsAfter device.is_read (source_of old) bytes (source_of new) → FillsLines device old (Ok true) new
+  makes_last is_told told none reads = makes (ends_told device old new bytes was.untold consumed none reads) (λ e. (told, none))
 
 -- ---- the end of the text
 
 module _ {S : Type 0} (device : Source S) (old new : LineReader S) (bytes : List ℕ) (was : Goes old) (is : IsTold new)
     (same : input_of new ≡ input_of old) (same_lines : lines_given new ≡ lines_given old) (consumed : Consumes (device.left (source_of old)) (device.left (source_of new)) bytes) (reads : ReadsOn device.is_read (source_of old) bytes (source_of new))
     (counted : new.taken ≡ old.taken + length bytes) (nothing : held old ++ bytes ≡ []) (gone : held new ≡ [])
-    (served : device.has_failed (source_of new) ≡ device.has_failed (source_of old)) (told : device.end_told (source_of new) ≡ true) (none : IsAtEnd (device.left (source_of new))) (ended : has_ended new ≡ true) (empty : buffered_bytes old ≡ []) where
+    (served : device.has_failed (source_of new) ≡ device.has_failed (source_of old)) (told : device.end_told (source_of new) ≡ true) (none : IsAtEnd (device.left (source_of new))) (ended : has_ended new ≡ true) (empty : buffered_bytes old ≡ []) (ends_reads : EndsAfter device.is_read (source_of old) bytes (source_of new)) where
   end_hands : Hands device old bytes new
-  end_hands = hands_on device old new bytes was.good is.good reads consumed (omega (arith, is.taken, was.taken, counted)) same (λ untold below. absurd (false≢true (sym untold ∙ is.is_told))) (λ e. is.is_told) (ends_told device old new bytes was.untold consumed none)
+  end_hands = hands_on device old new bytes was.good is.good reads consumed (omega (arith, is.taken, was.taken, counted)) same (λ untold below. absurd (false≢true (sym untold ∙ is.is_told))) was.untold (ends_told device old new bytes was.untold consumed none ends_reads)
 
   pub fills_end : FillsLines device old (Ok false) new
   fills_end = record {
@@ -242,7 +242,7 @@ module _ {S : Type 0} {device : Source S} {old new : LineReader S} {bytes text b
   cut_feeds below = omega (arith, line.same_lines, line.holds below)
 
   cut_hands : Hands device old bytes new
-  cut_hands = hands_by device old new bytes line.was.good line.reads line.consumed line.counted line.same (λ untold. cut_feeds) (λ e. absurd (false≢true (sym line.was.untold ∙ e))) (ends_untold device old new bytes line.was.untold line.untold)
+  cut_hands = hands_by device old new bytes line.was.good line.reads line.consumed line.counted line.same (λ untold. cut_feeds) line.was.untold (ends_untold device old new bytes line.was.untold line.untold)
 
   cut_near : IsNear old bytes new
   unfolding lines_coming
@@ -252,8 +252,7 @@ module _ {S : Type 0} {device : Source S} {old new : LineReader S} {bytes text b
       sym (append_assoc (held old) bytes rest) ∙ ap (λ l. l ++ rest) line.joined ∙ append_assoc text behind rest in
       rw (one, all) (omega (arith, bytes_behind_first (suc (lines_given old)) text (behind ++ rest) line.clear, length-append behind rest, line.short))
 
-  cut_given : text ≡ held old ++ take (2 ^ 63 - 1 - bytes_taken old) bytes
-      → lines_given new ≡ feeds_taken old + line_feeds (take (2 ^ 63 - 1 - bytes_taken old) bytes)
+  cut_given : text ≡ held old ++ take (2 ^ 63 - 1 - bytes_taken old) bytes → CutsOff old bytes new
   unfolding feeds_taken
   cut_given e = grind (arith, line_feeds-append, line_feeds-none)
 
@@ -270,7 +269,7 @@ module _ {S : Type 0} {device : Source S} {old new : LineReader S} {bytes text b
       before_end = λ going. line.was.untold;
       no_line = λ going. line.no_line;
       first = λ going. cause;
-      cut_off = λ going e. record { bytes = bytes; hands = cut_hands; given = cut_given (cut e) };
+      cut_off = λ going e. cut_given (cut e);
       near = λ going. cut_near;
       served = served;
     };
@@ -300,11 +299,11 @@ module _ {S : Type 0} {device : Source S} (old new : LineReader S) (going : old.
 
   pub last_step : stop ≡ StopEnd → (length (complete new.buffer) ≡ 0 → ⊥) → new.state ≡ LastLine → FillsLines device old (Ok true) new
   unfolding source_of input_of lines_given held buffered_bytes end_told
-  last_step is some state = let b = rw is at buffers in grind (arith, goes, told_last, held_closed, makes_last, b.handed)
+  last_step is some state = let b = rw is at buffers in let reads = reads_ended device.is_read b.handed in grind (arith, goes, told_last, held_closed, makes_last, b.handed, reads)
 
   pub end_step : stop ≡ StopEnd → length (complete new.buffer) ≡ 0 → new.state ≡ Ended → FillsLines device old (Ok false) new
   unfolding source_of input_of lines_given held has_ended
-  end_step is empty state = let b = rw is at buffers in grind (arith, goes, fills_end, told_ended, nothing_buffered, b.handed)
+  end_step is empty state = let b = rw is at buffers in let reads = reads_ended device.is_read b.handed in grind (arith, goes, fills_end, told_ended, nothing_buffered, b.handed, reads)
 
   no_feeds : (stop ≡ StopLineFeed → ⊥) → line_feeds (held old) ≡ 0
   no_feeds other = rw old_holds (grind arith)

@@ -1,6 +1,6 @@
 use Rattle.bt_lines.proofs.Std.{◌≡◌, ◌∙◌, ◌+◌, ◌++◌, [], ap, append-nil, length, nil_from_length, sym}
 use Rattle.bt_lines.specs.inside.ReadBuffer.{unread}
-use Rattle.bt_lines.proofs.lemmas.reader.block.ReadsLemmas.{reads_one}
+use Rattle.bt_lines.proofs.lemmas.reader.block.ReadsLemmas.{ends_once}
 use Rattle.bt_lines.proofs.reader.spill.ask_more.Goals as goal
 
 pub returns-in-Ok-eq0-clause-asks : goal.returns-in-Ok-eq0-clause-asks
@@ -11,7 +11,7 @@ returns-in-Ok-eq0-clause-asks g c =
     record {
       bytes = got.0;
       consumed = got.2;
-      handed = reads_one g.S.Source.is_read c.args.source.now c.read_more.new.source got.0 got.4;
+      handed = ends_once g.S.Source.is_read c.args.source.now c.read_more.new.source got.0 none got.4;
       counted = ap (λ l. c.args.taken.now + length l) (sym none);
       within = c.requires.counted;
       came = (none, got.3 ∙ ap (λ l. unread c.args.buffer.now ++ l) none ∙ append-nil (unread c.args.buffer.now), c.in-Ok-eq0.ensures.served, end.0, end.1);

@@ -127,8 +127,11 @@ feeds_below bound front back h = grind (arith, (take-append-add front back (boun
 
 -- the piece that was cut off, in two calls
 pub cuts_both : {S : Type 0} (device : Source S) (old now new : LineReader S) (first : List ℕ) → Hands device old first now
-    → end_told now ≡ false → bytes_taken now < 2 ^ 63 → CutsOff device now new → CutsOff device old new
-cuts_both device old now new first hands told within cut = grind (arith, (feeds_below (2 ^ 63 - 1 - bytes_taken old) first cut.bytes (omega arith)), (hands_both device old now new first cut.bytes hands cut.hands))
+    → end_told now ≡ false → bytes_taken now < 2 ^ 63 → (bytes : List ℕ) → Hands device now bytes new → CutsOff now bytes new → CutsOff old (first ++ bytes) new
+cuts_both device old now new first hands told within bytes more cut =
+    let counted = hands.counted in
+    let fed = hands.fed told within in
+    grind (arith, (feeds_below (2 ^ 63 - 1 - bytes_taken old) first bytes (omega arith)))
 
 pub up_to : {A : Type 0} (less more : ℕ) (past : List (Member A)) → less ≤ more → All (λ m. m.line ≤ less) past → All (λ m. m.line ≤ more) past
 up_to less more past h up k d i = omega (arith, up k d i)

@@ -275,16 +275,16 @@ module _ {S : Type 0} (device : Source S) {first last : S} (old new : LineReader
     pub text : take (2 ^ 63 - 1) reads.bytes ++ more ≡ reads.text
     pub given : lines_given new ≡ line_feeds (take (2 ^ 63 - 1) reads.bytes)
 
-  pub cut_text : (handed : Handed) (reads : Reads device first last handed) → feeds_taken old ≡ 0 → CutsOff device old new → CutText handed reads
-  cut_text handed reads fed cut =
+  pub cut_text : (handed : Handed) (reads : Reads device first last handed) → feeds_taken old ≡ 0 → (bytes : List ℕ) → Hands device old bytes new → CutsOff old bytes new → CutText handed reads
+  cut_text handed reads fed bytes hands cut =
       let parts = consumes_parts (device.left first) (device.left last) reads.bytes reads.text reads.known reads.consumed in
       let front = take (2 ^ 63 - 1) reads.bytes in
-      let same : line_feeds (take (2 ^ 63 - 1 - bytes_taken old) cut.bytes) ≡ line_feeds front =
-      ap (λ n. line_feeds (take (2 ^ 63 - 1 - n) cut.bytes)) fresh ∙ ap (λ l. line_feeds (take (2 ^ 63 - 1) l)) (sym (taken_by handed reads cut.bytes cut.hands).0) in
+      let same : line_feeds (take (2 ^ 63 - 1 - bytes_taken old) bytes) ≡ line_feeds front =
+      ap (λ n. line_feeds (take (2 ^ 63 - 1 - n) bytes)) fresh ∙ ap (λ l. line_feeds (take (2 ^ 63 - 1) l)) (sym (taken_by handed reads bytes hands).0) in
       record {
         more = drop (2 ^ 63 - 1) reads.bytes ++ parts.0;
         text = sym (append_assoc front (drop (2 ^ 63 - 1) reads.bytes) parts.0) ∙ ap (λ l. l ++ parts.0) (take-append-drop (2 ^ 63 - 1) reads.bytes) ∙ parts.2;
-        given = omega (arith, cut.given, fed, same);
+        given = omega (arith, cut, fed, same);
       }
 
 -- Lemmas on what is good of an input that a reader of members took.
@@ -347,7 +347,7 @@ module _ {S A State : Type 0} (device : Source S) {format : Format A State} {inp
   came_cut past fault handed (inr whole) unread = absurd (whole.no_read (input_of old.below) (suc (lines_given new.below)) (ap Some unread.is))
   came_cut past fault handed (inl reads) unread =
       let cut = unread.cut in
-      let texts = cut_text device old.below new.below begins.source ended begins.bytes handed reads begins.feeds cut in
+      let texts = cut_text device old.below new.below begins.source ended begins.bytes handed reads begins.feeds cut.0 cut.1 cut.2 in
       let front = take (2 ^ 63 - 1) reads.bytes in
       let more = texts.more in
       let text = texts.text in
@@ -356,7 +356,7 @@ module _ {S A State : Type 0} (device : Source S) {format : Format A State} {inp
       (good_known reads.text reads.known) unread.members in
       let told : Some (read_failed input (suc (line_feeds front))) ≡ Some fault =
       ap Some (sym (unread.is ∙ ap (λ i. read_failed i (suc (lines_given new.below))) begins.input_is ∙ ap (λ n. read_failed input (suc n)) given)) in
-      ap (good_handed format input) (handed_part device old.below new.below begins.source ended begins.bytes handed reads (cut.bytes, cut.hands) unread.cause)
+      ap (good_handed format input) (handed_part device old.below new.below begins.source ended begins.bytes handed reads (cut.0, cut.1) unread.cause)
       ∙ cut_good format input front more past members.0 (good format input (text_lines (front ++ more))).fault
       (subst (λ t. (good format input (text_lines t)).members ≡ past ++ members.0) (sym text) members.1) refl
       (subst (λ n. All (λ m. m.line ≤ n) past) given unread.behind)

@@ -270,7 +270,7 @@ module _ {S A State : Type 0} (device : Source S) (old : MemberReader S A State)
         is = unread.fails.is ∙ ap (λ input. read_failed input (suc (lines_given new.below))) (g.bytes.1.same_input);
         kept = answers.kept;
         cause = unread.fails.cause;
-        cut = cuts_both device old.below now.below new.below g.bytes.0 g.bytes.1 unread.fails.before_end (g.kept.within g.clear) (unread.fails.cut g.kept);
+        cut = (g.bytes.0 ++ answers.stays.bytes.0, hands_both device old.below now.below new.below g.bytes.0 answers.stays.bytes.0 g.bytes.1 answers.stays.bytes.1, cuts_both device old.below now.below new.below g.bytes.0 g.bytes.1 unread.fails.before_end (g.kept.within g.clear) answers.stays.bytes.0 answers.stays.bytes.1 (unread.fails.cut g.kept));
         members = begins_beyond (good_coming device.left old) (good_coming device.left now) past (lines_given new.below) g.come (nothing_known device now new answers.stays.bytes.1 unread.passed);
         behind = up_to (lines_given now.below) (lines_given new.below) past answers.rises g.behind;
       }))

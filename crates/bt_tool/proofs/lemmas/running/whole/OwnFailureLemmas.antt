@@ -278,7 +278,7 @@ module _ {G : Type 0} {device : Source G} {genome after : G} {old : LineReader G
   module _ (fault : FaultValue) (bytes : (bytes : List ℕ) × Hands device old bytes new) (next : IsSound device new) where
     unread_text : EntryUnread device old bytes.0 new fault → (handed : Handed) → Reads device genome after handed → chromosomes_of (Some handed) ≡ Err fault
     unread_text unread handed reads =
-        let texts = cut_text device old new source ended fresh handed reads unfed (unread.fails.cut (record { end = sound.end; within = sound.within })) in
+        let texts = cut_text device old new source ended fresh handed reads unfed bytes.0 bytes.1 (unread.fails.cut (record { end = sound.end; within = sound.within })) in
         let front = take (2 ^ 63 - 1) reads.bytes in
         let made = at_genome reads.text (λ lines. (entries : List Entry) × (genome_of (input_of old) (take (lines_given new - lines_given old) lines) ≡ Ok entries)) reads.known (lines_before_known device old new bytes.1 (λ lines. (entries : List Entry) × (genome_of (input_of old) (take (lines_given new - lines_given old) lines) ≡ Ok entries)) (λ rest follows. (unread.given, unread.passed rest follows))) in
         let first : genome_of FromGenome (take (line_feeds front) (text_lines (front ++ texts.more))) ≡ Ok made.0 =

@@ -7,4 +7,4 @@ invariant_of-self g c = record { placed = placed_by g.O.ChromOrder c.args.self.n
 
 pub returns : goal.returns
 unfolding order_in
-returns g c = fills_records g.S.Source c.args.self.now _ c.fill.ensures.rule _ (g.met.O.ChromOrder.total c.args.self.now.sorted.lookahead.rule.order.now) c.fill.ensures.fills c.fill.ensures.for_name
+returns g c = fills_records g.S.Source c.args.self.now _ c.fill.ensures.rule _ (g.met.O.ChromOrder.total c.args.self.now.sorted.lookahead.rule.order.now) c.fill.ensures.fills

@@ -1,7 +1,6 @@
-use Rattle.bt_lines.proofs.Std.{◌≡◌, refl, sym, ap, ◌∙◌, None, Some}
-use Rattle.bt_lines.specs.calls.Names.{fault_value}
-use Rattle.bt_bed.proofs.lemmas.read.batch.SortedReaderLemmas.{sorted_end, sorted_start, sorted_unread, taken_fault, taken_nothing, taken_record, taken_unkept, view_before}
-use Rattle.bt_bed.specs.calls.SortedReader.{buffered_in}
+use Rattle.bt_lines.proofs.Std.{refl, arith, ap, ◌∙◌}
+use Rattle.bt_bed.proofs.lemmas.read.batch.SortedReaderLemmas.{sorted_end, sorted_start, sorted_unread, taken_fault, taken_nothing, taken_record, view_before}
+use Rattle.bt_bed.specs.calls.SortedReader.{buffered_in, view_with}
 use Rattle.bt_bed.proofs.read.sorted_reader.SortedReader.read_record.Goals as goal
 
 pub loop-self-init : goal.loop-self-init
@@ -39,13 +38,6 @@ returns-in-Err-take_line-clause-fills g c =
     (taken_fault g.S.Source (g.Q.Sorted.sorting c.args.self.now.lookahead.rule) _ (ap g.Q.Sorted.sorting c.loop-self.invariant.rule) _ c.loop-self.self.reader fills.answers fills.kept c.loop-self.invariant.going c.in-Err-take_line.fault
     c.in-Err-take_line.ensures.takes)
 
-pub returns-in-Err-take_line-clause-for_name : goal.returns-in-Err-take_line-clause-for_name
-returns-in-Err-take_line-clause-for_name g c =
-    let fills = rw c.in-Ok-true.field-0-test at c.in-Ok-true.ensures.fills in
-    rw (view_before g.S.Source (g.Q.Sorted.sorting c.args.self.now.lookahead.rule) c.args.self.now c.requires.none c.requires.going)
-    (taken_unkept g.S.Source (g.Q.Sorted.sorting c.args.self.now.lookahead.rule) _ (ap g.Q.Sorted.sorting c.loop-self.invariant.rule) _ c.loop-self.self.reader fills.answers fills.kept c.loop-self.invariant.going c.in-Err-take_line.fault
-    c.in-Err-take_line.ensures.takes)
-
 pub returns-in-Ok-false-clause-fills : goal.returns-in-Ok-false-clause-fills
 unfolding buffered_in
 returns-in-Ok-false-clause-fills g c =
@@ -60,7 +52,6 @@ returns-in-Err-clause-fills g c =
     (sorted_unread g.S.Source (g.Q.Sorted.sorting c.args.self.now.lookahead.rule) _ c.loop-self.self.reader c.fill.new.self c.loop-self.self.lookahead c.in-Err.ensures.fills.kept c.loop-self.invariant.going c.in-Err.fault
     c.in-Err.ensures.fills.answers)
 
-pub returns-in-Err-clause-for_name : goal.returns-in-Err-clause-for_name
-returns-in-Err-clause-for_name g c = λ going is none.
-    let gives = c.in-Err.ensures.fills.answers in
-    absurd (let apart : None ≡ Some (fault_value c.in-Err.fault) = sym none ∙ gives.kept in cc)
+pub returns-in-Err-clause-placed : goal.returns-in-Err-clause-placed
+unfolding buffered_in view_with
+returns-in-Err-clause-placed g c = grind (arith, c.loop-self.invariant.none, c.loop-self.invariant.last, c.requires.placed.last)
