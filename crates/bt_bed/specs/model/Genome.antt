@@ -3,12 +3,12 @@
 -- with `#` are skipped (bedtools manual, genome file format).
 use Rattle.std.specs.Prelude.{ℕ, Bool, true, ◌==◌, List, [], ◌∷◌, ◌++◌, map, Option, Some, None, Result, Ok, Err, if◌then◌else◌}
 use Rattle.bt_lines.specs.model.Fault.{FaultValue}
-use Rattle.bt_lines.specs.model.Lines.{Handed, TextLine, pieces, value_of}
+use Rattle.bt_lines.specs.model.Lines.{Handed, TextLine, cut_fault, lines_handed, pieces, value_of}
 use Rattle.bt_lines.specs.declared.fault.Input.{Input}
 use Rattle.bt_lines.specs.declared.fault.Kind.{Kind}
 use Rattle.bt_lines.specs.declared.fault.Kind.TheVariants.{TooFewColumns, EmptyName, BadLength, RepeatedChrom}
 use Rattle.bt_bed.specs.model.BedLine.{not_skipped}
-use Rattle.bt_bed.specs.model.Good.{Format, Good, good, good_handed, items_in}
+use Rattle.bt_bed.specs.model.Good.{Format, Good, good, items_in}
 use Rattle.bt_bed.specs.model.Order.{is_among}
 
 -- a chromosome's name and its length
@@ -70,7 +70,14 @@ all_or_fault good = entries_unless good.fault (items_in good)
 abbrev pub genome_of : Input → List TextLine → Result (List Entry) FaultValue
 genome_of input lines = all_or_fault (good genome_format input lines)
 
+-- the entries, or the first fault, or else this one, if there is one
+abbrev pub genome_cut : Option FaultValue → Result (List Entry) FaultValue → Result (List Entry) FaultValue
+genome_cut None result = result
+genome_cut (Some fault) (Ok entries) = Err fault
+genome_cut (Some fault) (Err first) = Err first
+
 -- The entries of a genome file that may have been cut off: those of the lines handed over. Instead it
 -- is the fault of the first line at fault, or else the failed read after them.
 abbrev pub genome_handed : Input → Handed → Result (List Entry) FaultValue
-genome_handed input handed = all_or_fault (good_handed genome_format input handed)
+genome_handed input handed = genome_cut (cut_fault input handed)
+    (genome_of input (lines_handed handed))

@@ -10,7 +10,7 @@ use Rattle.bt_bed.specs.calls.Features.{IsName, columns_in, is_kept, IsFeature}
 use Rattle.bt_bed.proofs.lemmas.parse.FeatureLemmas.{header_says, record_said, said_is_feature, said_stands, pieces_are_columns}
 use Rattle.bt_laws.proofs.lemmas.single.Records.{written_feature, until_tab, IsDigit, decimal_digits, columns_text}
 use Rattle.bt_lines.specs.declared.fault.Input.{Input}
-use Rattle.bt_bed.specs.model.Good.{Good, good, good_after, good_handed, items_in, bed_format, line_says, locus_at, bed_good}
+use Rattle.bt_bed.specs.model.Good.{Good, good, good_after, items_in, bed_format, line_says, locus_at, bed_good}
 use Rattle.bt_bed.specs.model.Sorted.{Locus, falls_in, sorting_of}
 use Rattle.bt_bed.specs.calls.Orders.{ArePlaced, IsPlacedBefore, IsTotal}
 use Rattle.bt_bed.specs.model.Order.{Order}
@@ -293,4 +293,4 @@ chroms_from input names (line ∷ lines) clear =
     grind (arith, (entry_of line.text), line_is_chrom, (λ (now : List (List ℕ)). chroms_from input now lines clear.1))
 
 pub genome_chroms : (input : Input) (handed : Handed) (entries : List Entry) → genome_handed input handed ≡ Ok entries → AllByRecursion IsChrom entries
-genome_chroms input handed entries e = grind (arith, chroms_from, clear_handed, (good_handed genome_format input handed).fault)
+genome_chroms input handed entries e = grind (arith, chroms_from, clear_handed, (good genome_format input (lines_handed handed)).fault)
