@@ -38,7 +38,8 @@ def scale(low, high, left, right):
 
 def seconds(value):
     """A time of two digits."""
-    return f"{value:.0f} s" if value >= 9.95 else f"{value:.1f} s" if value >= 0.995 else f"{value:.2f} s" if value >= 0.0995 else f"{value:.3f} s"
+    return (f"{value:.0f} s" if value >= 9.95 else f"{value:.1f} s" if value >= 0.995
+            else f"{value:.2f} s" if value >= 0.0995 else f"{value:.3f} s")
 
 
 def size(kilobytes):
@@ -46,7 +47,8 @@ def size(kilobytes):
     bytes_ = kilobytes * 1024
     unit, of = ("GB", 1e9) if bytes_ >= 995e6 else ("MB", 1e6)
     amount = bytes_ / of
-    return f"{round(amount, -1):.0f} {unit}" if amount >= 99.5 else f"{amount:.0f} {unit}" if amount >= 9.95 else f"{amount:.1f} {unit}"
+    return (f"{round(amount, -1):.0f} {unit}" if amount >= 99.5 else f"{amount:.0f} {unit}" if amount >= 9.95
+            else f"{amount:.1f} {unit}")
 
 
 def foot(top, caption):
@@ -81,9 +83,12 @@ def draw_commands(kept, shown, caption):
     memory = scale(1, 10_000, 590, 850)
     parts = [text(190, 24, "times faster than bedtools (CPU time)", "title"), text(590, 24, "peak memory", "title"),
              text(190, 40, "below the factor: CPU seconds of bedtools / Dunekettle", "note"),
-             *ticks(less, [mark for mark in (1, 2, 5, 10, 20, 50, 100, 200, 500, 1000) if mark <= most], str, 66, bottom - 6),
-             *ticks(memory, (1, 10, 100, 1000, 10_000), lambda value: f"{value} MB" if value < 1000 else f"{value // 1000} GB", 66, bottom - 6),
-             '<circle class="ours" cx="715" cy="20" r="5"/>', text(724, 24, "Dunekettle"), '<circle class="theirs" cx="806" cy="20" r="5"/>', text(815, 24, "bedtools")]
+             *ticks(less, [mark for mark in (1, 2, 5, 10, 20, 50, 100, 200, 500, 1000) if mark <= most], str, 66,
+                    bottom - 6),
+             *ticks(memory, (1, 10, 100, 1000, 10_000),
+                    lambda value: f"{value} MB" if value < 1000 else f"{value // 1000} GB", 66, bottom - 6),
+             '<circle class="ours" cx="715" cy="20" r="5"/>', text(724, 24, "Dunekettle"),
+             '<circle class="theirs" cx="806" cy="20" r="5"/>', text(815, 24, "bedtools")]
     for at, (row, ratio) in enumerate(zip(rows, ratios)):
         top = first + step * at
         ours, theirs = row["runs"][OURS], row["runs"][THEIRS]
@@ -94,8 +99,10 @@ def draw_commands(kept, shown, caption):
                   text(end + 5, top + 22, f"{seconds(theirs['seconds'])} / {seconds(ours['seconds'])}", "note")]
         low, high = (memory(run["kilobytes"] * 1024 / 1e6) for run in (ours, theirs))
         parts += [f'<line class="link" x1="{low:.1f}" x2="{high:.1f}" y1="{top + 9}" y2="{top + 9}"/>',
-                  f'<circle class="ours" cx="{low:.1f}" cy="{top + 9}" r="5"/>', f'<circle class="theirs" cx="{high:.1f}" cy="{top + 9}" r="5"/>',
-                  text(low - 8, top + 13, size(ours["kilobytes"]), "note", "end"), text(high + 8, top + 13, size(theirs["kilobytes"]), "note")]
+                  f'<circle class="ours" cx="{low:.1f}" cy="{top + 9}" r="5"/>',
+                  f'<circle class="theirs" cx="{high:.1f}" cy="{top + 9}" r="5"/>',
+                  text(low - 8, top + 13, size(ours["kilobytes"]), "note", "end"),
+                  text(high + 8, top + 13, size(theirs["kilobytes"]), "note")]
     noted, end = foot(bottom + 20, caption)
     return picture(end + 4, [*parts, *noted])
 
@@ -103,7 +110,8 @@ def draw_commands(kept, shown, caption):
 def curve(points, kind):
     """A line through points, with a dot on each."""
     path = " ".join(f"{x:.1f},{y:.1f}" for x, y in points)
-    return [f'<polyline class="line {kind}" points="{path}"/>', *(f'<circle class="{kind}" cx="{x:.1f}" cy="{y:.1f}" r="3"/>' for x, y in points)]
+    return [f'<polyline class="line {kind}" points="{path}"/>',
+            *(f'<circle class="{kind}" cx="{x:.1f}" cy="{y:.1f}" r="3"/>' for x, y in points)]
 
 
 def draw_growth(kept, caption):
@@ -111,14 +119,16 @@ def draw_growth(kept, caption):
     commands = list(kept["growth"])
     left, wide, gap = 70, 104, 14
     parts = [text(16, 20, "CPU time and peak memory, by the size of the input", "title"),
-             '<circle class="ours" cx="560" cy="16" r="5"/>', text(569, 20, "Dunekettle"), '<circle class="theirs" cx="650" cy="16" r="5"/>', text(659, 20, "bedtools")]
+             '<circle class="ours" cx="560" cy="16" r="5"/>', text(569, 20, "Dunekettle"),
+             '<circle class="theirs" cx="650" cy="16" r="5"/>', text(659, 20, "bedtools")]
     panels = ((64, 210, 0.01, 100, (0.01, 0.1, 1, 10, 100), lambda run: run["seconds"], lambda value: f"{value:g} s"),
               (260, 406, 1, 10_000, (1, 10, 100, 1000, 10_000), lambda run: run["kilobytes"] * 1024 / 1e6,
                lambda value: f"{value:g} MB" if value < 1000 else f"{value / 1000:g} GB"))
     for top, bottom, low, high, marks, value, label in panels:
         up = scale(low, high, bottom, top)
         for mark in marks:
-            parts += [f'<line class="grid" x1="{left}" x2="{left + 7 * wide + 6 * gap}" y1="{up(mark):.1f}" y2="{up(mark):.1f}"/>',
+            parts += [f'<line class="grid" x1="{left}" x2="{left + 7 * wide + 6 * gap}" y1="{up(mark):.1f}" '
+                      f'y2="{up(mark):.1f}"/>',
                       text(left - 6, up(mark) + 4, label(mark), "note", "end")]
         for at, command in enumerate(commands):
             begin = left + at * (wide + gap)
@@ -127,10 +137,12 @@ def draw_growth(kept, caption):
             if top == panels[0][0]:
                 parts.append(text(begin + wide / 2, 52, command, "name", "middle"))
             for program, kind in ((THEIRS, "theirs"), (OURS, "ours")):
-                points = [(across(int(records)), up(max(value(runs[program]), low))) for records, runs in sizes.items() if program in runs]
+                points = [(across(int(records)), up(max(value(runs[program]), low))) for records, runs in sizes.items()
+                          if program in runs]
                 parts += curve(points, kind) if points else []
             factor, unit = SIZES.get(command, (1, "M records"))
-            parts += [text(across(int(records)), bottom + 16, f"{float(f'{int(records) / 1e6 * factor:.2g}'):g}", "note", "middle") for records in sizes]
+            parts += [text(across(int(records)), bottom + 16, f"{float(f'{int(records) / 1e6 * factor:.2g}'):g}",
+                           "note", "middle") for records in sizes]
             parts.append(text(begin + wide / 2, bottom + 30, unit, "note", "middle"))
     noted, end = foot(462, caption)
     return picture(end + 4, [*parts, *noted])
@@ -138,7 +150,8 @@ def draw_growth(kept, caption):
 
 def draw_pipelines(kept, caption):
     """Three bars for each pipeline, on one linear scale of wall-clock seconds: bedtools, the drop-in, rewritten."""
-    forms = (("bedtools", "theirs", "bedtools", 330), ("drop-in", "both", "drop-in, unchanged", 430), ("rewritten", "ours", "rewritten", 595))
+    forms = (("bedtools", "theirs", "bedtools", 330), ("drop-in", "both", "drop-in, unchanged", 430),
+             ("rewritten", "ours", "rewritten", 595))
     most = max(seconds for row in kept["pipelines"] for seconds in row["seconds"].values())
     left, right, first, step = 330, 820, 62, 66
     step_of_ticks = next(mark for mark in (0.1, 0.2, 0.5, 1, 2, 5, 10, 20, 50, 100, 200, 500) if most / mark <= 6)
@@ -147,18 +160,21 @@ def draw_pipelines(kept, caption):
     parts = [text(16, 20, "whole pipelines, wall-clock seconds", "title")]
     for _, kind, label, at in forms:
         parts += [f'<rect class="{kind}" x="{at}" y="10" width="12" height="12" rx="2"/>', text(at + 17, 20, label)]
-    parts += ticks(lambda value: left + (right - left) * value / most, values, lambda value: f"{value:g} s", first - 12, bottom - 10)
+    parts += ticks(lambda value: left + (right - left) * value / most, values, lambda value: f"{value:g} s", first - 12,
+                   bottom - 10)
     for at, row in enumerate(kept["pipelines"]):
         top = first + step * at
         words = row["what"].split(" ")
         half = next((cut for cut in range(len(words), 0, -1) if len(" ".join(words[:cut])) <= 40), len(words))
         named = [" ".join(part) for part in (words[:half], words[half:]) if part]
         parts += [text(16, top + 12 + 16 * line, part, "name") for line, part in enumerate(named)]
-        parts.append(text(16, top + 12 + 16 * len(named), f"the drop-in took {row['taken']} of {row['calls']} calls", "note"))
+        parts.append(text(16, top + 12 + 16 * len(named), f"the drop-in took {row['taken']} of {row['calls']} calls",
+                          "note"))
         for line, (form, kind, _, _) in enumerate(forms):
             value = row["seconds"][form]
             width = (right - left) * value / most
-            parts += [f'<rect class="{kind}" x="{left}" y="{top + 16 * line}" width="{max(width, 1):.1f}" height="12" rx="2"/>',
+            parts += [f'<rect class="{kind}" x="{left}" y="{top + 16 * line}" width="{max(width, 1):.1f}" height="12" '
+                      'rx="2"/>',
                       text(left + width + 6, top + 16 * line + 10, seconds(value), "note")]
     noted, end = foot(bottom + 18, caption)
     return picture(end + 4, [*parts, *noted])

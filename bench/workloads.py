@@ -1,4 +1,5 @@
-"""The workloads of compare.py: commands over sorted records, which are written at random places, always the same ones."""
+"""The workloads of compare.py: commands over sorted records, which are written at random places, always the same
+ones."""
 
 import random
 import shutil
@@ -6,7 +7,8 @@ import subprocess
 from dataclasses import dataclass
 
 # The lengths of the human chromosomes in GRCh38, in million bases.
-GRCH38 = [249, 242, 198, 190, 182, 171, 159, 145, 138, 134, 135, 133, 114, 107, 102, 90, 83, 80, 59, 64, 47, 51, 156, 57]
+GRCH38 = [249, 242, 198, 190, 182, 171, 159, 145, 138, 134, 135, 133, 114, 107, 102, 90, 83, 80, 59, 64, 47, 51, 156,
+          57]
 # The chromosomes in the order of their names' bytes, so that -g may be left out.
 CHROMOSOMES = sorted(zip((f"chr{name}" for name in [*range(1, 23), "X", "Y"]), GRCH38))
 NAMES = [name for name, _ in CHROMOSOMES]
@@ -46,7 +48,8 @@ class Touching(OneInput):
 
 @dataclass
 class Features:
-    """Records at random places, of lengths from the shortest to below the longest, one for so many records asked for."""
+    """Records at random places, of lengths from the shortest to below the longest, one for so many records asked
+    for."""
 
     word: str
     each: int
@@ -78,7 +81,8 @@ class Overlapping(OneInput):
         return "overlapping pairs of both strands"
 
     def write(self, folder, count):
-        lines = (f"chr1\t{at * 50}\t{at * 50 + 20}\tx\t1\t+\nchr1\t{at * 50 + 1}\t{at * 50 + 21}\tx\t1\t-\n" for at in range(count // 2))
+        lines = (f"chr1\t{at * 50}\t{at * 50 + 20}\tx\t1\t+\nchr1\t{at * 50 + 1}\t{at * 50 + 21}\tx\t1\t-\n"
+                 for at in range(count // 2))
         (folder / "records.bed").write_text("".join(lines), encoding="ascii")
 
 
@@ -291,12 +295,10 @@ WORKLOADS = [
         for shape in ([], ["-A"], ["-f", "0.5"])
     ),
     # bedtools goes over each base of the genome, so its instructions aren't counted: that would take half an hour.
-    *(
-        Workload(["genomecov", *options], data, BOTH, None, None, part, data.depth > 0 and options == ["-bg"], counted=OURS)
-        for data, part in ((Alone(READS, 30), 0.1), (Alone(PEAKS), 0.02))
-        for options in (["-bg"], ["-bga"], ["-bg", "-strand", "+"])
-        if data.features.columns > 3 or "-strand" not in options
-    ),
+    *(Workload(["genomecov", *options], data, BOTH, None, None, part, data.depth > 0 and options == ["-bg"],
+               counted=OURS) for data, part in ((Alone(READS, 30), 0.1), (Alone(PEAKS), 0.02))
+      for options in (["-bg"], ["-bga"], ["-bg", "-strand", "+"])
+      if data.features.columns > 3 or "-strand" not in options),
     Workload(["bamtobed"], Alignments(), (), None, None, 0.15, convert2bed=["--input=sam", "--do-not-sort"]),
     Workload(["bamtobed", "-split"], Alignments(), (), None, None, 0.15, False),
     *(
@@ -305,11 +307,12 @@ WORKLOADS = [
         for how in ([], ["-soft"])
     ),
     # What a line costs that no record lies on or before.
-    Workload(["maskfasta"], Sequences("no", 1_000_000_000_000), (), None, None, 0.3, False, counted=OURS, output_option="-fo"),
+    Workload(["maskfasta"], Sequences("no", 1_000_000_000_000), (), None, None, 0.3, False, counted=OURS,
+             output_option="-fo"),
 ]
 
-# What is counted alone: of fewer records on whole chromosomes almost none share a base, so that these lie as close as those
-# that are timed.
+# What is counted alone: of fewer records on whole chromosomes almost none share a base, so that these lie as close as
+# those that are timed.
 COUNTED_WORKLOADS = [
     Workload([*command, *shape], Pair(*kinds, True), BOTH, None, None, None, False, counted=OURS)
     for kinds in ((READS, EXONS), (EXONS, PEAKS), (PEAKS, REPEATS))
@@ -332,7 +335,8 @@ def write_genome(path):
 
 
 def further_columns(numbers, columns, start, stop):
-    """The columns after the third: none, or a name, a score and a strand, and of twelve those of one block behind them."""
+    """The columns after the third: none, or a name, a score and a strand, and of twelve those of one block behind
+    them."""
     if columns == 3:
         return ""
     block = f"\t{start}\t{stop}\t0\t1\t{stop - start},\t0," if columns == 12 else ""
@@ -357,7 +361,8 @@ def write_records(path, count, columns, seed, prefix="chr"):
 
 
 def write_features(path, count, features, seed, part=1.0, begin=0.0):
-    """Writes about `count` records at random places in a part of each chromosome, from another part of it on, in order."""
+    """Writes about `count` records at random places in a part of each chromosome, from another part of it on, in
+    order."""
     numbers = random.Random(seed)
     total = sum(LENGTHS)
     with open(path, "w", encoding="ascii") as records:
@@ -388,10 +393,12 @@ def write_alignments(path, count, seed):
 
 
 def write_sequences(folder, count, apart, seed):
-    """Writes 24 sequences, each of about `count` times as many bases as its chromosome has million, and records in order."""
+    """Writes 24 sequences, each of about `count` times as many bases as its chromosome has million, and records in
+    order."""
     numbers = random.Random(seed)
     text = "".join(numbers.choice("ACGTacgtN") for _ in range(60_000))
-    with open(folder / "records.bed", "w", encoding="ascii") as lines, open(folder / "second.bed", "w", encoding="ascii") as records:
+    with open(folder / "records.bed", "w", encoding="ascii") as lines, open(folder / "second.bed", "w",
+                                                                            encoding="ascii") as records:
         for name, length in zip(NAMES, LENGTHS):
             bases = count * length
             lines.write(f">{name}\n")

@@ -37,7 +37,8 @@ SHORT, RUNS = 3, 3
 TABLE = re.compile(r"(<!-- a script writes: pipelines -->\n).*?(<!-- it ends here -->)", re.DOTALL)
 GAIN = re.compile(r"(<!-- a script writes: gain -->\n).*?(<!-- it ends here -->)", re.DOTALL)
 # The file of all rows, its columns, and how many of those that gain and lose most are on the page.
-ROWS, COLUMNS, MOST = "front_pipelines.tsv", ("pipeline", "calls", "taken", "small", "as quick", "seconds without", "with"), 5
+ROWS, COLUMNS, MOST = ("front_pipelines.tsv",
+                       ("pipeline", "calls", "taken", "small", "as quick", "seconds without", "with"), 5)
 # Why a call isn't taken although it could be: its files are below the size from which a look pays, or bedtools is as
 # quick with any.
 SMALL = re.compile("its inputs are small")
@@ -115,7 +116,8 @@ def run_script(script, folder, env, count):
 def try_pipelines(folder, env, count, words):
     """Runs the scripts in both ways, and gives a row for each."""
     rows, reasons = [], {}
-    print(f"{'pipeline':<26}{'calls':>7}{'taken':>7}{'small':>7}{'quick':>7}{'without':>10}{'with':>8}   seconds of processor")
+    print(f"{'pipeline':<26}{'calls':>7}{'taken':>7}{'small':>7}{'quick':>7}{'without':>10}{'with':>8}   seconds of "
+          "processor")
     for script in sorted((HERE / "pipelines").glob("*.sh")):
         if words and not any(word in script.stem for word in words):
             continue
@@ -137,10 +139,11 @@ def sums(rows):
 def summary(rows):
     """What all rows come to."""
     calls, taken, small, quick, plain, fronted = sums(rows)
-    return (f"{len(rows)} pipelines: of {calls} calls of the seven commands Dunekettle took {taken} ({100 * taken / max(calls, 1):.0f} percent); "
-            f"{plain:.0f} seconds of CPU time became {fronted:.0f} ({100 * fronted / max(plain, 0.01):.0f} percent). "
-            f"Of the other {calls - taken}, {small} have inputs too small for a check to be worth it, {quick} are as quick in bedtools at any size, "
-            f"and {calls - taken - small - quick} have options or files that Dunekettle doesn't take")
+    return (f"{len(rows)} pipelines: of {calls} calls of the seven commands Dunekettle took {taken} "
+            f"({100 * taken / max(calls, 1):.0f} percent); {plain:.0f} seconds of CPU time became {fronted:.0f} "
+            f"({100 * fronted / max(plain, 0.01):.0f} percent). Of the other {calls - taken}, {small} have inputs too "
+            f"small for a check to be worth it, {quick} are as quick in bedtools at any size, and "
+            f"{calls - taken - small - quick} have options or files that Dunekettle doesn't take")
 
 
 def goals_missed(rows):
@@ -156,20 +159,24 @@ def goals_missed(rows):
 
 
 def write_table(rows):
-    """Puts all rows into front_pipelines.tsv, into bench/DROP_IN.md their sum and those that gain and lose most, into README the sum."""
+    """Puts all rows into front_pipelines.tsv, into bench/DROP_IN.md their sum and those that gain and lose most, into
+    README the sum."""
     page = TOP / "bench" / "DROP_IN.md"
-    shown = [(name[3:].replace("-", " "), *map(str, counts), f"{before:.2f}", f"{after:.2f}") for name, *counts, before, after in rows]
+    shown = [(name[3:].replace("-", " "), *map(str, counts), f"{before:.2f}", f"{after:.2f}")
+             for name, *counts, before, after in rows]
     (HERE / ROWS).write_text("".join("\t".join(row) + "\n" for row in [COLUMNS, *shown]), encoding="utf-8")
     by_gain = sorted(shown, key=lambda row: float(row[-1]) - float(row[-2]))
     lines = [f"{summary(rows)}. [All rows](../tests/drop_in/{ROWS}); those that gain and lose most:", ""]
     lines += [f"| {' | '.join(row)} |" for row in (COLUMNS, ["---"] * len(COLUMNS), *by_gain[:MOST], *by_gain[-MOST:])]
     text = page.read_text(encoding="utf-8")
-    page.write_text(TABLE.sub(lambda found: found[1] + "\n".join(["", *lines, "", ""]) + found[2], text), encoding="utf-8")
+    page.write_text(TABLE.sub(lambda found: found[1] + "\n".join(["", *lines, "", ""]) + found[2], text),
+                    encoding="utf-8")
     first = TOP / "README.md"
     calls, taken, _, _, before, after = sums(rows)
-    gain = (f"**With the drop-in**, [{len(rows)} pipelines](bench/DROP_IN.md#what-was-tried) took {after:.0f} seconds of CPU time instead of {before:.0f}, "
-            f"without a change. Dunekettle ran {taken} of their {calls} calls.\n")
-    first.write_text(GAIN.sub(lambda found: found[1] + gain + found[2], first.read_text(encoding="utf-8")), encoding="utf-8")
+    gain = (f"**With the drop-in**, [{len(rows)} pipelines](bench/DROP_IN.md#what-was-tried) took {after:.0f} seconds "
+            f"of CPU time instead of {before:.0f}, without a change. Dunekettle ran {taken} of their {calls} calls.\n")
+    first.write_text(GAIN.sub(lambda found: found[1] + gain + found[2], first.read_text(encoding="utf-8")),
+                     encoding="utf-8")
 
 
 def try_pybedtools(folder, env, count):
@@ -217,7 +224,8 @@ def try_tools(folder, env, count):
             print(f"no {tool}: passed over")
     there = both_ways("module", ["bash", "module.sh"], ["test.bed"], folder, env, count)
     versions = (there / "versions.yml").read_text(encoding="utf-8")
-    count.expect("the module's versions", True, bool(re.fullmatch(r'"BEDTOOLS_MERGE":\n    bedtools: 2\.30\.0\n', versions)))
+    count.expect("the module's versions", True,
+                 bool(re.fullmatch(r'"BEDTOOLS_MERGE":\n    bedtools: 2\.30\.0\n', versions)))
 
 
 def main():

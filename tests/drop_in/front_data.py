@@ -8,8 +8,8 @@ from pathlib import Path
 
 # A genome of a thousand million bases, about that of a chicken. Its annotation and its repeats are as many as a chicken
 # has; reads and fragments are fewer, so that a trial ends.
-SIZES = {"chr1": 130_000_000, "chr2": 120_000_000, "chr3": 110_000_000, "chr4": 105_000_000, "chr5": 100_000_000, "chr6": 95_000_000,
-         "chr10": 90_000_000, "chr11": 85_000_000, "chr12": 80_000_000, "chrX": 85_000_000}
+SIZES = {"chr1": 130_000_000, "chr2": 120_000_000, "chr3": 110_000_000, "chr4": 105_000_000, "chr5": 100_000_000,
+         "chr6": 95_000_000, "chr10": 90_000_000, "chr11": 85_000_000, "chr12": 80_000_000, "chrX": 85_000_000}
 SMALL = {"chr1": 120_000, "chr10": 60_000, "chr2": 90_000}
 # What reads have their bases and qualities of.
 BASES, QUALITIES = ("".join(random.Random(5).choices(letters, k=1_000_000)) for letters in ("ACGT", "FFFFFFFF:,#"))
@@ -63,7 +63,8 @@ def make_features(folder, draw):
         for number, parts in enumerate(splicings(draw, s, e)):
             end = parts[-1][1]
             exons += [[c, low, high, f"gene{n}", 0, strand] for low, high in parts]
-            transcripts.append([c, s, end, f"tx{n}.{number}", 0, strand, s, end, "0", len(parts), "".join(f"{high - low}," for low, high in parts),
+            transcripts.append([c, s, end, f"tx{n}.{number}", 0, strand, s, end, "0", len(parts),
+                                "".join(f"{high - low}," for low, high in parts),
                                 "".join(f"{low - s}," for low, _ in parts)])
             lines.append(f'{c}\ttrial\ttranscript\t{s + 1}\t{end}\t.\t{strand}\t.\tgene_id "gene{n}";')
             lines += [f'{c}\ttrial\texon\t{low + 1}\t{high}\t.\t{strand}\t.\tgene_id "gene{n}";' for low, high in parts]
@@ -83,12 +84,15 @@ def make_others(folder, draw):
     lines = [f"@SQ\tSN:{c}\tLN:{size}" for c, size in SIZES.items()]
     for number, (rank, start, strand) in enumerate(reads):
         cigar = draw.choice(["75M"] * 6 + ["30M2D45M", "40M1200N35M", "20M4I51M", "5S70M"])
-        lines.append(f"r{number}\t{16 if strand == '-' else 0}\t{order[rank]}\t{start + 1}\t{draw.randrange(61)}\t{cigar}\t*\t0\t0\t{read_bases(number, 75)}")
+        lines.append(f"r{number}\t{16 if strand == '-' else 0}\t{order[rank]}\t{start + 1}\t{draw.randrange(61)}\t"
+                     f"{cigar}\t*\t0\t0\t{read_bases(number, 75)}")
     Path(folder, "reads.sam").write_text("\n".join(lines) + "\n", encoding="utf-8")
     subprocess.run(["samtools", "view", "-b", "-o", "reads.bam", "reads.sam"], cwd=folder, check=True)
-    variants = by_bytes([c, s + 1, f"rs{n}", draw.choice("ACGT"), draw.choice("ACGT"), 50, "PASS", "DP=9"] for n, c, s, _, _ in spread(draw, 20_000, 1, 2))
+    variants = by_bytes([c, s + 1, f"rs{n}", draw.choice("ACGT"), draw.choice("ACGT"), 50, "PASS", "DP=9"]
+                        for n, c, s, _, _ in spread(draw, 20_000, 1, 2))
     text = "".join("\t".join(map(str, row)) + "\n" for row in variants)
-    Path(folder, "calls.vcf").write_text("##fileformat=VCFv4.2\n#CHROM\tPOS\tID\tREF\tALT\tQUAL\tFILTER\tINFO\n" + text, encoding="utf-8")
+    Path(folder, "calls.vcf").write_text("##fileformat=VCFv4.2\n#CHROM\tPOS\tID\tREF\tALT\tQUAL\tFILTER\tINFO\n" + text,
+                                         encoding="utf-8")
     make_sequences(folder, draw, "small.fa", "repeats.bed", SMALL)
 
 
@@ -99,7 +103,8 @@ def make_sequences(folder, draw, fasta, bed, sizes):
         for name, size in sizes.items():
             bases = (part * (size // len(part) + 1))[:size]
             file.write(f">{name}\n" + "".join(bases[at : at + 60] + "\n" for at in range(0, size, 60)))
-    repeats = ([name, start, start + draw.randrange(20, 300)] for name, size in sizes.items() for start in (draw.randrange(size - 300) for _ in range(size // 400)))
+    repeats = ([name, start, start + draw.randrange(20, 300)] for name, size in sizes.items()
+               for start in (draw.randrange(size - 300) for _ in range(size // 400)))
     write(folder, bed, by_bytes(repeats))
 
 
@@ -115,7 +120,8 @@ def write_bam(folder, name, sizes, reads):
     lines = ["@HD\tVN:1.6\tSO:coordinate", *(f"@SQ\tSN:{c}\tLN:{size}" for c, size in sizes.items())]
     for number, (c, start, cigar, strand) in enumerate(sorted(reads, key=lambda read: (rank[read[0]], read[1]))):
         length = sum(int(count) for count, letter in re.findall(r"(\d+)(.)", cigar) if letter == "M")
-        lines.append(f"r{number}\t{16 if strand == '-' else 0}\t{c}\t{start + 1}\t60\t{cigar}\t*\t0\t0\t{read_bases(number, length)}")
+        lines.append(f"r{number}\t{16 if strand == '-' else 0}\t{c}\t{start + 1}\t60\t{cigar}\t*\t0\t0\t"
+                     f"{read_bases(number, length)}")
     text = ("\n".join(lines) + "\n").encode()
     subprocess.run(["samtools", "view", "-b", "-o", name, "-"], input=text, cwd=folder, check=True)
 
@@ -137,12 +143,15 @@ def spliced(draw, transcripts, count):
 
 def make_reads(folder, draw, transcripts):
     """BAM files of ChIP, its input, RNA and capture, with the targets of the last, and the fragments of ATAC."""
-    write_bam(folder, "chip.bam", SIZES, ((c, s, "50M", strand) for _, c, s, _, strand in spread(draw, 700_000, 50, 51)))
-    write_bam(folder, "input.bam", SIZES, ((c, s, "50M", strand) for _, c, s, _, strand in spread(draw, 500_000, 50, 51)))
+    write_bam(folder, "chip.bam", SIZES,
+              ((c, s, "50M", strand) for _, c, s, _, strand in spread(draw, 700_000, 50, 51)))
+    write_bam(folder, "input.bam", SIZES,
+              ((c, s, "50M", strand) for _, c, s, _, strand in spread(draw, 500_000, 50, 51)))
     write_bam(folder, "rna.bam", SIZES, spliced(draw, transcripts, 400_000))
     targets = [(c, s, e) for _, c, s, e, _ in spread(draw, 200_000, 100, 400) if s > 200]
     write(folder, "targets.bed", by_bytes([c, s, e, f"target{n}"] for n, (c, s, e) in enumerate(targets)))
-    reads = ((c, draw.randrange(s - 70, e), draw.choice(["100M"] * 9 + ["60M2D40M"]), draw.choice("+-")) for c, s, e in (draw.choice(targets) for _ in range(500_000)))
+    reads = ((c, draw.randrange(s - 70, e), draw.choice(["100M"] * 9 + ["60M2D40M"]), draw.choice("+-"))
+             for c, s, e in (draw.choice(targets) for _ in range(500_000)))
     write_bam(folder, "capture.bam", SIZES, reads)
     fragments = by_bytes([c, s, e, f"cell{n % 700}"] for n, c, s, e, _ in spread(draw, 400_000, 40, 600))
     text = "".join("\t".join(map(str, row)) + "\n" for row in fragments)
@@ -151,16 +160,24 @@ def make_reads(folder, draw, transcripts):
 
 def make_rest(folder, draw):
     """Segments and gaps of CNV, the repeats of a genome and of contigs, and a virus with its reads and amplicons."""
-    write(folder, "segments.bed", by_bytes([c, s, e, f"segment{n}"] for n, c, s, e, _ in spread(draw, 800, 100_000, 2_000_000)))
+    write(folder, "segments.bed",
+          by_bytes([c, s, e, f"segment{n}"] for n, c, s, e, _ in spread(draw, 800, 100_000, 2_000_000)))
     write(folder, "gaps.bed", by_bytes([c, s, e] for _, c, s, e, _ in spread(draw, 60, 10_000, 50_000)))
     families = ("Alu", "L1", "MIR", "simple", "LTR")
-    repeats = by_bytes([c, s, e, families[n % 5], draw.randrange(9999), strand] for n, c, s, e, strand in spread(draw, 600_000, 30, 900))
-    Path(folder, "rmsk.bed.gz").write_bytes(gzip.compress("".join("\t".join(map(str, row)) + "\n" for row in repeats).encode(), 6))
-    make_sequences(folder, draw, "contigs.fa", "contig.repeats.bed", {"contig1": 12_000_000, "contig2": 9_000_000, "contig3": 6_000_000})
+    repeats = by_bytes([c, s, e, families[n % 5], draw.randrange(9999), strand]
+                       for n, c, s, e, strand in spread(draw, 600_000, 30, 900))
+    Path(folder, "rmsk.bed.gz").write_bytes(gzip.compress("".join("\t".join(map(str, row)) + "\n"
+                                                                  for row in repeats).encode(),
+                                                          6))
+    make_sequences(folder, draw, "contigs.fa", "contig.repeats.bed",
+                   {"contig1": 12_000_000, "contig2": 9_000_000, "contig3": 6_000_000})
     virus = {"NC_045512.2": 29_903}
     make_sequences(folder, draw, "virus.fa", "virus.repeats.bed", virus)
-    write_bam(folder, "virus.bam", virus, (("NC_045512.2", int(29_753 * draw.random() ** 2), "150M", draw.choice("+-")) for _ in range(200_000)))
-    write(folder, "primers.bed", [["NC_045512.2", at, at + 400, f"amplicon{n}", n % 2 + 1, "+"] for n, at in enumerate(range(30, 29_400, 300))])
+    write_bam(folder, "virus.bam", virus,
+              (("NC_045512.2", int(29_753 * draw.random() ** 2), "150M", draw.choice("+-")) for _ in range(200_000)))
+    write(folder, "primers.bed",
+          [["NC_045512.2", at, at + 400, f"amplicon{n}", n % 2 + 1, "+"]
+           for n, at in enumerate(range(30, 29_400, 300))])
 
 
 def make_all(folder):

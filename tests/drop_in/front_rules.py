@@ -1,14 +1,15 @@
 #!/usr/bin/env python3
-"""Gives the drop-in and bedtools 2.30.0 the same random command lines, for each rule by which the drop-in takes more than
-files of sorted BED.
+"""Gives the drop-in and bedtools 2.30.0 the same random command lines, for each rule by which the drop-in takes more
+than files of sorted BED.
 
     tests/drop_in/front_rules.py [SEED [CASES [JOBS [RULE]]]]
 
-The rules: files in an order of chromosomes of their own; genomecov in any order of them, its forms, its blocks of BED12 and of BAM; bamtobed through samtools;
-the order of hits, and bins of all levels; streams that are short, long, or two of one producer; gzip files; bytes that bedtools reads
-otherwise. By several kinds of awk and shells. Each command line has to write the same bytes with the same status, and leave no file in TMPDIR; if bedtools
-ends with another status than 0, Dunekettle may take it. Shows how many of each rule Dunekettle took. Ends with 1 where
-one differs, and with 0 and a word where there is no bedtools 2.30.0.
+The rules: files in an order of chromosomes of their own; genomecov in any order of them, its forms, its blocks of BED12
+and of BAM; bamtobed through samtools; the order of hits, and bins of all levels; streams that are short, long, or two
+of one producer; gzip files; bytes that bedtools reads otherwise. By several kinds of awk and shells. Each command line
+has to write the same bytes with the same status, and leave no file in TMPDIR; if bedtools ends with another status than
+0, Dunekettle may take it. Shows how many of each rule Dunekettle took. Ends with 1 where one differs, and with 0 and a
+word where there is no bedtools 2.30.0.
 """
 
 import concurrent.futures
@@ -23,11 +24,15 @@ from pathlib import Path
 from front_tools import TOLD, call, drop_in, install, looking, original
 
 NAMES = ["chr1", "chr10", "chr2", "chrX", "M", "c.1", "1", "01", "1e1"]
-ODD_GENOMES = ["#c\t9\n", "# c\n", "\n", "chr1\t0\n", "chr1\t5\n", "new\t7\r\n", "new 7\n", "new\t07\n", "new\t-3\n", "new\t2147483648\n", "new\n", "new\t7\tmore\n"]
-ODD_LINES = [b"chr1\t1\t5\tn\0\t0\t+\n", b"chr1\t1\t5\tn\t0\t+\r\r\n", b"chr1\t1\t2147483648\tn\t0\t+\n", b"chr1\t1\t2147483647\tn\t0\t+\n", b"\x1f\x8b\t1\t5\tn\t0\t+\n",
-             b"chr\x0b\t1\t5\tn\t0\t+\n", b"chr\x0c\t1\t5\tn\t0\t+\n", b"chr\r\t1\t5\tn\t0\t+\n", b"chrom\x0b\t1\t5\tn\t0\t+\n", b"chrom\x0c\t1\t5\tn\t0\t+\n", b"chrom\r\t1\t5\tn\t0\t+\n",
-             b"chromosome\t1\t5\tn\t0\t+\n", b"chr \t1\t5\tn\t0\t+\n", b"track x\n", b"browser x\n", b"\n", b"chr1\tx\texon\t2\t6\t.\t+\t.\tid\n", b"chr1\t1e1\t2e1\tn\t0\t+\n",
-             b"chr1\t5\t5\tn\t0\t+\n", b"chr1\t1\t5\tn\t0\t.\n", b"#c\n", b"##fileformat=VCFv4.2\n", b"\xef\xbb\xbfchr1\t1\t5\tn\t0\t+\n"]
+ODD_GENOMES = ["#c\t9\n", "# c\n", "\n", "chr1\t0\n", "chr1\t5\n", "new\t7\r\n", "new 7\n", "new\t07\n", "new\t-3\n",
+               "new\t2147483648\n", "new\n", "new\t7\tmore\n"]
+ODD_LINES = [b"chr1\t1\t5\tn\0\t0\t+\n", b"chr1\t1\t5\tn\t0\t+\r\r\n", b"chr1\t1\t2147483648\tn\t0\t+\n",
+             b"chr1\t1\t2147483647\tn\t0\t+\n", b"\x1f\x8b\t1\t5\tn\t0\t+\n", b"chr\x0b\t1\t5\tn\t0\t+\n",
+             b"chr\x0c\t1\t5\tn\t0\t+\n", b"chr\r\t1\t5\tn\t0\t+\n", b"chrom\x0b\t1\t5\tn\t0\t+\n",
+             b"chrom\x0c\t1\t5\tn\t0\t+\n", b"chrom\r\t1\t5\tn\t0\t+\n", b"chromosome\t1\t5\tn\t0\t+\n",
+             b"chr \t1\t5\tn\t0\t+\n", b"track x\n", b"browser x\n", b"\n", b"chr1\tx\texon\t2\t6\t.\t+\t.\tid\n",
+             b"chr1\t1e1\t2e1\tn\t0\t+\n", b"chr1\t5\t5\tn\t0\t+\n", b"chr1\t1\t5\tn\t0\t.\n", b"#c\n",
+             b"##fileformat=VCFv4.2\n", b"\xef\xbb\xbfchr1\t1\t5\tn\t0\t+\n"]
 
 
 def some(draw, chance, *given):
@@ -49,9 +54,12 @@ def intervals(draw, sizes, most=30):
     used = draw.sample(list(sizes), draw.randint(0, len(sizes)))
     rows = []
     for name in used:
-        starts = sorted(draw.randrange(sizes[name] + (draw.random() < 0.02) * 3) for _ in range(draw.choice([1, 2, 8, most])))
-        rows += [[name, start, max(start + 1, min(start + draw.choice([1, 1, 2, 5, 30, sizes[name]]), sizes[name] + (draw.random() < 0.02))), f"r{n}", n % 61, draw.choice("+-")]
-                 for n, start in enumerate(starts)]
+        starts = sorted(draw.randrange(sizes[name] + (draw.random() < 0.02) * 3)
+                        for _ in range(draw.choice([1, 2, 8, most])))
+        rows += [[name, start,
+                  max(start + 1,
+                      min(start + draw.choice([1, 1, 2, 5, 30, sizes[name]]), sizes[name] + (draw.random() < 0.02))),
+                  f"r{n}", n % 61, draw.choice("+-")] for n, start in enumerate(starts)]
     if rows and draw.random() < 0.05:
         rows.append(rows[0])
     return rows
@@ -67,7 +75,8 @@ def bed12(draw, row):
     tail = draw.choice(["", ","])
     if draw.random() < 0.01:
         lengths = draw.choice([lengths[:-1], [0, *lengths[1:]], [1000, *lengths[1:]], ["x"]])
-    return [name, start, end, read, score, strand, start, end, 0, count, ",".join(map(str, lengths)) + tail, ",".join(map(str, starts)) + tail]
+    return [name, start, end, read, score, strand, start, end, 0, count, ",".join(map(str, lengths)) + tail,
+            ",".join(map(str, starts)) + tail]
 
 
 def text_of(rows, end="\n"):
@@ -78,7 +87,10 @@ def a_form(draw):
     form = draw.choice([[], ["-bg"], ["-bga"], ["-d"], ["-dz"]])
     if not form:
         return some(draw, 0.4, "-max", draw.choice(["1", "2", "3", "4", "100"]))
-    return form + (some(draw, 0.4, "-scale", draw.choice(["0.1", "0.37", "1", "1.0", "3", "1000000", "123456.789", "0.000001", "333333.3"])) if form[0] in ("-bg", "-bga") else [])
+    return (form
+            + (some(draw, 0.4, "-scale",
+                    draw.choice(["0.1", "0.37", "1", "1.0", "3", "1000000", "123456.789", "0.000001",
+                                 "333333.3"])) if form[0] in ("-bg", "-bga") else []))
 
 
 def coverage(draw):
@@ -97,7 +109,8 @@ def reads(draw, sizes):
     """SAM text whose reads are sorted."""
     lines = ["@HD\tVN:1.6\tSO:coordinate"] + [f"@SQ\tSN:{name}\tLN:{size}" for name, size in sizes.items()]
     for name in list(sizes)[: draw.randint(0, len(sizes))]:
-        for place in sorted(draw.randrange(1, min(sizes[name], 40_000) + 1) for _ in range(draw.choice([1, 3, 10, 40]))):
+        for place in sorted(draw.randrange(1, min(sizes[name], 40_000) + 1)
+                            for _ in range(draw.choice([1, 3, 10, 40]))):
             operations, bases = [], 0
             for _ in range(draw.choice([1, 1, 2, 3, 5])):
                 letter, count = draw.choice("MMMMM=XIDN"), draw.randint(1, 6)
@@ -107,13 +120,15 @@ def reads(draw, sizes):
                 operations.insert(0, "2S")
                 bases += 2
             flag = draw.choice([0, 0, 16, 16, 4, 256, 272, 1024, 512, 2048, 99, 147])
-            lines.append(f"r{len(lines)}\t{flag}\t{name}\t{place}\t9\t{''.join(operations)}\t*\t0\t0\t{'A' * bases or '*'}\t*")
+            lines.append(f"r{len(lines)}\t{flag}\t{name}\t{place}\t9\t{''.join(operations)}\t*\t0\t0\t"
+                         f"{'A' * bases or '*'}\t*")
     return "".join(line + "\n" for line in lines).encode()
 
 
 def packed(text):
     """BAM of SAM text."""
-    return subprocess.run(["samtools", "view", "-b", "-"], input=text, stdout=subprocess.PIPE, stderr=subprocess.DEVNULL, check=False).stdout
+    return subprocess.run(["samtools", "view", "-b", "-"], input=text, stdout=subprocess.PIPE,
+                          stderr=subprocess.DEVNULL, check=False).stdout
 
 
 def alignments(draw):
@@ -127,9 +142,15 @@ def alignments(draw):
     if draw.random() < 0.03:
         files["r.bam"] = files["r.bam"][: draw.randrange(len(files["r.bam"]))]
     if command == "bamtobed":
-        return files, ["bamtobed", "-i", draw.choice(["r.sam", "r.bam"]), *some(draw, 0.6, "-split"), *some(draw, 0.1, "-cigar")], ""
+        return (files,
+                ["bamtobed", "-i", draw.choice(["r.sam", "r.bam"]), *some(draw, 0.6, "-split"),
+                 *some(draw, 0.1, "-cigar")],
+                "")
     form = [word for word in a_form(draw) if word not in ("-d", "-dz")]
-    return files, ["genomecov", "-ibam", draw.choice(["r.bam"] * 4 + ["-"]), *form, *some(draw, 0.5, "-split"), *some(draw, 0.4, "-strand", draw.choice("+-"))], "r.bam"
+    return (files,
+            ["genomecov", "-ibam", draw.choice(["r.bam"] * 4 + ["-"]), *form, *some(draw, 0.5, "-split"),
+             *some(draw, 0.4, "-strand", draw.choice("+-"))],
+            "r.bam")
 
 
 def hits(draw):
@@ -138,20 +159,26 @@ def hits(draw):
         made = []
         for name in draw.sample(sorted(NAMES[:4]), draw.randint(1, 3)):
             for _ in range(draw.choice([1, 4, 10])):
-                start = draw.choice([draw.randrange(200_000), 16_384 * draw.randrange(20), max(0, 16_384 * draw.randrange(40) - draw.choice([0, 1, 2, 5]))])
+                start = draw.choice([draw.randrange(200_000), 16_384 * draw.randrange(20),
+                                     max(0, 16_384 * draw.randrange(40) - draw.choice([0, 1, 2, 5]))])
                 length = draw.choice([1, 2, 5, 100, 16_384, 131_072, 300_000, 2_000_000, 16_384 - start % 16_384])
                 made.append([name, start, start + length, "x", 0, draw.choice("+-")][:columns])
         made.sort(key=lambda row: (row[0], row[1]))
         return [row for row in made for _ in range(draw.choice([1, 1, 1, 2]))]
     files = {"a.bed": text_of(rows(draw.choice([3, 6]))), "b.bed": text_of(rows(draw.choice([3, 4, 6])))}
     line = ["intersect", "-a", "a.bed", "-b", draw.choice(["b.bed", "a.bed"])]
-    return files, line + draw.choice([[], ["-wa", "-wb"], ["-wb"], ["-wo"], ["-wa"], ["-wa", "-wo"]]) + some(draw, 0.2, "-f", draw.choice(["0.5", "0.1", "1"])) + some(draw, 0.1, "-r"), ""
+    return (files,
+            line + draw.choice([[], ["-wa", "-wb"], ["-wb"], ["-wo"], ["-wa"], ["-wa", "-wo"]])
+            + some(draw, 0.2, "-f", draw.choice(["0.5", "0.1", "1"])) + some(draw, 0.1, "-r"),
+            "")
 
 
 def near_bin(draw):
     """A start or an end at the border of a bin, of some level, or a base or two from it, or anywhere."""
     size = 16_384 * 8 ** draw.choice([0, 0, 0, 1, 1, 2, 3, 4])
-    return max(0, draw.choice([size * draw.randint(0, min(40, 300_000_000 // size)), draw.randrange(2_000_000), draw.randrange(60_000)]) + draw.choice([0, 0, 0, -2, -1, 1, 2]))
+    return max(0,
+               draw.choice([size * draw.randint(0, min(40, 300_000_000 // size)), draw.randrange(2_000_000),
+                            draw.randrange(60_000)]) + draw.choice([0, 0, 0, -2, -1, 1, 2]))
 
 
 def bins(draw):
@@ -164,21 +191,31 @@ def bins(draw):
             made = []
             for n in range(draw.choice([0, 1, 3, few, few])):
                 start = draw.choice([draw.choice(places), near_bin(draw)])
-                end = draw.choice([start + draw.choice([1, 2, 60, 300, 16_383, 16_384, 16_385, 131_072, 300_000_000 - start]), start + 16_384 - start % 16_384, draw.choice(places), near_bin(draw)])
-                made.append([name, start, max(start + 1, end), f"r{n % 4}", n % 3, draw.choice("+-"), "more", n % 5][:columns])
+                end = draw.choice([start
+                                   + draw.choice([1, 2, 60, 300, 16_383, 16_384, 16_385, 131_072, 300_000_000 - start]),
+                                   start + 16_384 - start % 16_384, draw.choice(places), near_bin(draw)])
+                made.append([name, start, max(start + 1, end), f"r{n % 4}", n % 3, draw.choice("+-"), "more",
+                             n % 5][:columns])
             made.sort(key=lambda row: row[1])
             rows += [row for row in made for _ in range(draw.choice([1, 1, 1, 2]))]
         if rows and draw.random() < 0.02:
             rows[-1] = rows[-1] + ["x"]
         lines = text_of(rows, draw.choice(["\n"] * 5 + ["\r\n"])).splitlines(keepends=True)
         for _ in range(draw.choice([0, 0, 0, 1])):
-            lines.insert(draw.choice([0, draw.randint(0, len(lines))]), draw.choice([b"#c\n", b"#c\td\n", b"track x\n"]))
+            lines.insert(draw.choice([0, draw.randint(0, len(lines))]),
+                         draw.choice([b"#c\n", b"#c\td\n", b"track x\n"]))
         return b"".join(lines)
     files = {"a.bed": text(8, 8), "b.bed": text(draw.choice([8, 30]), 8)}
-    line = ["intersect", "-a", "a.bed", "-b", draw.choice(["b.bed"] * 6 + ["a.bed"]), *draw.choice([[], ["-wa", "-wb"], ["-wa", "-wb"], ["-wb"], ["-wb"], ["-wo"], ["-wo"]])]
-    line += some(draw, 0.2, "-f", draw.choice(["0.5", "0.1", "1", "0.000001"])) + some(draw, 0.1, "-r") + some(draw, 0.1, "-s")
+    line = ["intersect", "-a", "a.bed", "-b", draw.choice(["b.bed"] * 6 + ["a.bed"]),
+            *draw.choice([[], ["-wa", "-wb"], ["-wa", "-wb"], ["-wb"], ["-wb"], ["-wo"], ["-wo"]])]
+    line += (some(draw, 0.2, "-f", draw.choice(["0.5", "0.1", "1", "0.000001"])) + some(draw, 0.1, "-r")
+             + some(draw, 0.1, "-s"))
     if draw.random() < 0.1:
-        return files, "PROGRAM " + " ".join(f"<(cat {word})" if word.endswith(".bed") and draw.random() < 0.6 else word for word in line), ""
+        return (files,
+                "PROGRAM "
+                + " ".join(f"<(cat {word})" if word.endswith(".bed") and draw.random() < 0.6 else word
+                           for word in line),
+                "")
     return files, line, ""
 
 
@@ -188,10 +225,15 @@ def plain(draw):
     def text():
         return text_of(sorted(intervals(draw, sizes), key=lambda row: (row[0], row[1])))
     files = {"a.bed": text(), "b.bed": text(), "g.txt": text_of(sizes.items())}
-    return files, draw.choice([["merge", "-i", "a.bed"], ["merge", "-i", "a.bed", "-S", "+"], ["merge", "-i", "a.bed", "-g", "g.txt"], ["complement", "-i", "a.bed", "-g", "g.txt"],
-                               ["intersect", "-u", "-a", "a.bed", "-b", "b.bed"], ["intersect", "-sorted", "-c", "-a", "a.bed", "-b", "b.bed", "-g", "g.txt"],
-                               ["intersect", "-s", "-v", "-a", "a.bed", "-b", "b.bed"], ["intersect", "-wo", "-a", "a.bed", "-b", "b.bed"], ["subtract", "-a", "a.bed", "-b", "b.bed"],
-                               ["intersect", "-f", "0.5", "-r", "-u", "-a", "a.bed", "-b", "b.bed"], ["genomecov", "-i", "a.bed", "-g", "g.txt"]])
+    return (files,
+            draw.choice([["merge", "-i", "a.bed"], ["merge", "-i", "a.bed", "-S", "+"],
+                         ["merge", "-i", "a.bed", "-g", "g.txt"], ["complement", "-i", "a.bed", "-g", "g.txt"],
+                         ["intersect", "-u", "-a", "a.bed", "-b", "b.bed"],
+                         ["intersect", "-sorted", "-c", "-a", "a.bed", "-b", "b.bed", "-g", "g.txt"],
+                         ["intersect", "-s", "-v", "-a", "a.bed", "-b", "b.bed"],
+                         ["intersect", "-wo", "-a", "a.bed", "-b", "b.bed"], ["subtract", "-a", "a.bed", "-b", "b.bed"],
+                         ["intersect", "-f", "0.5", "-r", "-u", "-a", "a.bed", "-b", "b.bed"],
+                         ["genomecov", "-i", "a.bed", "-g", "g.txt"]]))
 
 
 def streams(draw):
@@ -207,7 +249,8 @@ def streams(draw):
         script.append(word)
     script = " ".join(script)
     if source:
-        script = draw.choice([f"{script} < {source}", f"cat {source} | PROGRAM {script}", f"(sleep 0.03; cat {source}) | PROGRAM {script}"])
+        script = draw.choice([f"{script} < {source}", f"cat {source} | PROGRAM {script}",
+                              f"(sleep 0.03; cat {source}) | PROGRAM {script}"])
     return files, (room + (script if "PROGRAM" in script else "PROGRAM " + script)), ""
 
 
@@ -219,7 +262,9 @@ def zipped(draw):
         if draw.random() < 0.3:
             files[name] = text
             continue
-        made = draw.choice([gzip.compress(text)] * 4 + [gzip.compress(text[:50]) + gzip.compress(text[50:]), gzip.compress(text)[:-5], gzip.compress(text) + b"junk"])
+        made = draw.choice([gzip.compress(text)] * 4
+                           + [gzip.compress(text[:50]) + gzip.compress(text[50:]), gzip.compress(text)[:-5],
+                              gzip.compress(text) + b"junk"])
         files[name + ".gz"] = made
         line = [name + ".gz" if word == name else word for word in line]
     return files, ("DUNEKETTLE_ROOM=60 " if draw.random() < 0.1 else "") + "PROGRAM " + " ".join(line), ""
@@ -240,8 +285,8 @@ def odd_bytes(draw):
 
 
 def own_orders(draw):
-    """merge, intersect and subtract of files in orders of their own: one for both, or others; a chromosome may come back,
-    and starts may go back."""
+    """merge, intersect and subtract of files in orders of their own: one for both, or others; a chromosome may come
+    back, and starts may go back."""
     order = draw.sample(NAMES, draw.randint(2, 7))
     def text(few):
         names = [name for name in order if draw.random() < 0.8]
@@ -252,26 +297,38 @@ def own_orders(draw):
         rows, columns = [], draw.choice([3, 4, 6, 6])
         for name in names:
             made = [[name, start, start + draw.choice([1, 2, 10, 60]), "x", 0, draw.choice("+-")][:columns]
-                    for start in (draw.randrange(300) * draw.choice([1, 1, 100]) for _ in range(draw.choice([1, 2, few])))]
+                    for start in (draw.randrange(300) * draw.choice([1, 1, 100])
+                                  for _ in range(draw.choice([1, 2, few])))]
             rows += made if draw.random() < 0.03 else sorted(made, key=lambda row: row[1])
         lines = text_of(rows, draw.choice(["\n"] * 5 + ["\r\n"])).splitlines(keepends=True)
         if draw.random() < 0.3:
-            odd = [b"#c\n", b"#c\td\n", b"track x\n", b"browser x\n", b"track\t1\t5\n", b"trackx\t1\t5\n", b"\n", b"\t1\t5\n", b"# 1\t1\t5\n", b"chr9\t7\t9\n"]
+            odd = [b"#c\n", b"#c\td\n", b"track x\n", b"browser x\n", b"track\t1\t5\n", b"trackx\t1\t5\n", b"\n",
+                   b"\t1\t5\n", b"# 1\t1\t5\n", b"chr9\t7\t9\n"]
             lines.insert(draw.choice([0, 0, draw.randint(0, len(lines))]), draw.choice(odd[:4] * 3 + odd))
         return b"".join(lines)
     files = {"a.bed": text(9), "b.bed": text(draw.choice([2, 9]))}
-    line = draw.choice([["merge", "-i", "a.bed"], ["merge", "-i", "a.bed"], ["merge", "-d", "50", "-i", "a.bed"], ["subtract", "-a", "a.bed", "-b", "b.bed"], ["subtract", "-A", "-a", "a.bed", "-b", "b.bed"],
-                        ["subtract", "-s", "-a", "a.bed", "-b", "b.bed"], ["subtract", "-f", "0.5", "-a", "a.bed", "-b", "b.bed"], ["intersect", "-sorted", "-u", "-a", "a.bed", "-b", "b.bed"],
-                        *(["intersect", *form, "-a", "a.bed", "-b", draw.choice(["b.bed"] * 8 + ["a.bed"])] for form in (["-u"], ["-v"], ["-c"], ["-c", "-s"], ["-u", "-f", "0.3"], ["-v", "-f", "0.5", "-r"], [], ["-wa"], ["-wb"], ["-wo"], ["-wa", "-wb"]))])
+    line = draw.choice([["merge", "-i", "a.bed"], ["merge", "-i", "a.bed"], ["merge", "-d", "50", "-i", "a.bed"],
+                        ["subtract", "-a", "a.bed", "-b", "b.bed"], ["subtract", "-A", "-a", "a.bed", "-b", "b.bed"],
+                        ["subtract", "-s", "-a", "a.bed", "-b", "b.bed"],
+                        ["subtract", "-f", "0.5", "-a", "a.bed", "-b", "b.bed"],
+                        ["intersect", "-sorted", "-u", "-a", "a.bed", "-b", "b.bed"],
+                        *(["intersect", *form, "-a", "a.bed", "-b", draw.choice(["b.bed"] * 8 + ["a.bed"])]
+                          for form in (["-u"], ["-v"], ["-c"], ["-c", "-s"], ["-u", "-f", "0.3"],
+                                       ["-v", "-f", "0.5", "-r"], [], ["-wa"], ["-wb"], ["-wo"], ["-wa", "-wb"]))])
     if draw.random() < 0.1:
         files["g.txt"] = text_of([name, 40_000] for name in order)
         line = [*line, "-g", "g.txt"]
     if draw.random() < 0.2:
-        return files, "PROGRAM " + " ".join(f"<(cat {word})" if word.endswith(".bed") and draw.random() < 0.6 else word for word in line), ""
+        return (files,
+                "PROGRAM "
+                + " ".join(f"<(cat {word})" if word.endswith(".bed") and draw.random() < 0.6 else word
+                           for word in line),
+                "")
     return files, line, ""
 
 
-RULES = {"own orders": own_orders, "coverage": coverage, "alignments": alignments, "hits": hits, "bins": bins, "streams": streams, "gzip": zipped, "odd bytes": odd_bytes}
+RULES = {"own orders": own_orders, "coverage": coverage, "alignments": alignments, "hits": hits, "bins": bins,
+         "streams": streams, "gzip": zipped, "odd bytes": odd_bytes}
 
 
 def ran(line, program, folder, env, source):
@@ -298,7 +355,8 @@ def try_seed(rule, seed, theirs, place, with_awk, shell):
         left = [file.name for file in temporary.iterdir()]
     taker = (TOLD.findall(found[2]) or [("nobody", "")])[0][0]
     is_refused = wanted[1] != 0 and taker == "Dunekettle"
-    wrong = "" if (wanted[:2] == found[:2] or is_refused) and not left else f"{rule} {seed}: {line}, {shell}, taken by {taker}, left {left}\n  wanted {wanted!r:.700}\n  found  {found!r:.700}\n  files  {files!r:.1500}"
+    wrong = ("" if (wanted[:2] == found[:2] or is_refused) and not left
+             else f"{rule} {seed}: {line}, {shell}, taken by {taker}, left {left}\n  wanted {wanted!r:.700}\n  found  {found!r:.700}\n  files  {files!r:.1500}")
     return rule, "Dunekettle" if taker == "Dunekettle" else "bedtools", wrong
 
 
@@ -315,10 +373,15 @@ def main():
             folder.mkdir()
             (folder / "awk").write_text(f'#!/bin/sh\nexec {name} "$@"\n', encoding="utf-8")
             (folder / "awk").chmod(0o755)
-            if subprocess.run([folder / "awk", "BEGIN { exit }"], stdin=subprocess.DEVNULL, stderr=subprocess.DEVNULL, check=False).returncode == 0:
+            if subprocess.run([folder / "awk", "BEGIN { exit }"], stdin=subprocess.DEVNULL, stderr=subprocess.DEVNULL,
+                              check=False).returncode == 0:
                 awks.append(folder)
-        rules, shells = sys.argv[4:] or list(RULES), ["", *(shell for shell in ("dash", "bash --posix", "busybox sh") if shutil.which(shell.split()[0]))]
-        futures = [pool.submit(try_seed, rules[n % len(rules)], seed * 1_000_000 + n, theirs, place, awks[n % 7 % len(awks) :][:1], shells[n % 11 % len(shells)]) for n in range(cases)]
+        rules, shells = (sys.argv[4:] or list(RULES),
+                         ["",
+                          *(shell for shell in ("dash", "bash --posix", "busybox sh")
+                            if shutil.which(shell.split()[0]))])
+        futures = [pool.submit(try_seed, rules[n % len(rules)], seed * 1_000_000 + n, theirs, place,
+                               awks[n % 7 % len(awks) :][:1], shells[n % 11 % len(shells)]) for n in range(cases)]
         for done, future in enumerate(concurrent.futures.as_completed(futures), 1):
             rule, taker, difference = future.result()
             if done % 1000 == 0:
