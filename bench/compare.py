@@ -172,17 +172,18 @@ def prepared(workload, folder, size):
     return place
 
 
-def compare(workload, others, folder, size, times, discard):
-    """Runs a workload on `size` records by each program, so many times. Answers what each took, with its least time."""
+def compare(workload, others, folder, size, asked):
+    """Runs a workload on `size` records by each program, as often as is asked. Answers what each took, with its least
+    time."""
     place = prepared(workload, folder, size)
     runs = runs_of(workload, others, place)
     megabytes = (place / "records.bed").stat().st_size / 1e6
     print(f"{workload.name()}: about {size} records, {megabytes:.0f} MB")
-    outputs = {run.program: Path(os.devnull) if discard else folder / f"{run.program}.bed" for run in runs}
-    for _ in range(times):
+    outputs = {run.program: Path(os.devnull) if asked.discard else folder / f"{run.program}.bed" for run in runs}
+    for _ in range(asked.times):
         for run in runs:
             time_run(run, outputs[run.program])
-        if not discard:
+        if not asked.discard:
             check_same(runs, outputs)
     for run in runs:
         part = "" if run is runs[0] else f", of which ours is {runs[0].seconds / run.seconds:.2f}"
@@ -329,7 +330,7 @@ def compare_all(asked, valgrind):
         others = found_others(folder)
         for workload in (it for it in WORKLOADS if asked.only in it.name()):
             sizes = (asked.records // 10, asked.records)
-            small, large = (compare(workload, others, folder, size, asked.times, asked.discard) for size in sizes)
+            small, large = (compare(workload, others, folder, size, asked) for size in sizes)
             if large[0].kilobytes > small[0].kilobytes + SLACK:
                 sys.exit("the memory grows with the input")
             if others["bedtools"]:

@@ -148,8 +148,8 @@ def touching_reads(folder):
 
 def exons_and_reads(folder):
     """100,000 exons of 50 to 400 bases, and 1,000,000 reads of 150, on a fiftieth of the human chromosomes."""
-    workloads.write_features(folder / "a.bed", 1_000_000, workloads.EXONS, 1, 0.02)
-    workloads.write_features(folder / "b.bed", 1_000_000, workloads.READS, 2, 0.02)
+    workloads.write_features(folder / "a.bed", 1_000_000, workloads.EXONS, 1, workloads.Part(0.02))
+    workloads.write_features(folder / "b.bed", 1_000_000, workloads.READS, 2, workloads.Part(0.02))
 
 
 def amplicons(folder):

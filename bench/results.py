@@ -59,9 +59,8 @@ NAMES = {
 # What is reported beside the workloads that say so: other shapes, and what holds or waits for many records.
 ALSO = (
     "intersect -sorted -v, reads and exons", "intersect -sorted -c, reads and exons",
-    "intersect -sorted -u, 2,000 in 10,000 nested",
-    "intersect -sorted, 100,000 under a long one", "merge -s, 200,000 after one of the other strand",
-    "genomecov -bg, peaks",
+    "intersect -sorted -u, 2,000 in 10,000 nested", "intersect -sorted, 100,000 under a long one",
+    "merge -s, 200,000 after one of the other strand", "genomecov -bg, peaks",
 )
 SIZES = (1_000_000, 2_000_000, 4_000_000, 8_000_000)
 # A machine with more to do than this isn't idle.
@@ -83,8 +82,8 @@ def shown(command):
 
 def output_of(*words):
     """What a program writes on standard output, in one line."""
-    return " ".join(subprocess.run(words, cwd=TOP, stdout=subprocess.PIPE, stderr=subprocess.DEVNULL, text=True,
-                                   check=False).stdout.split())
+    done = subprocess.run(words, cwd=TOP, stdout=subprocess.PIPE, stderr=subprocess.DEVNULL, text=True, check=False)
+    return " ".join(done.stdout.split())
 
 
 def machine():
@@ -113,9 +112,8 @@ def timed(workload, others, folder, size, times):
     for _ in range(times):
         for run in runs:
             compare.time_run(run, Path(os.devnull))
-    print(f"{workload.name()}, {size}: "
-          + ", ".join(f"{run.program} {run.seconds:.3f} s {run.kilobytes} kB" for run in runs),
-          flush=True)
+    took = ", ".join(f"{run.program} {run.seconds:.3f} s {run.kilobytes} kB" for run in runs)
+    print(f"{workload.name()}, {size}: {took}", flush=True)
     return {run.program: {"seconds": round(run.seconds, 4), "kilobytes": run.kilobytes} for run in runs}
 
 
@@ -128,15 +126,18 @@ def check_outputs(workload, others, folder, size):
     compare.check_same(runs, outputs)
 
 
-def measured(workload, others, folder, records, times, valgrind):
-    """The row of a workload."""
+def measured(workload, others, folder, records, times):
+    """The row of a workload, but for the instructions."""
     check_outputs(workload, others, folder, records // 10)
-    row = {"name": workload.name(), "command": workload.words[0],
-           "runs": timed(workload, others, folder, records, times)}
+    return {"name": workload.name(), "command": workload.words[0],
+            "runs": timed(workload, others, folder, records, times)}
+
+
+def instructions(workload, folder, valgrind):
+    """The instructions a record of this program."""
     place = compare.prepared(workload, folder, compare.COUNTED)
     run = compare.runs_of(workload, compare.NO_OTHERS, place)[0]
-    row["instructions"] = round(compare.instructions_of(valgrind, run) / compare.lines_of(place / "records.bed"), 1)
-    return row
+    return round(compare.instructions_of(valgrind, run) / compare.lines_of(place / "records.bed"), 1)
 
 
 def grown(command, others, folder, sizes, times):
@@ -193,7 +194,8 @@ def measure(records, times, trial, inputs=None):
         folder = inputs or Path(own)
         prepare(folder, records)
         others = compare.found_others(folder)
-        kept["workloads"] = [measured(workload, others, folder, records, times, valgrind) for workload in reported()]
+        kept["workloads"] = [measured(workload, others, folder, records, times)
+                             | {"instructions": instructions(workload, folder, valgrind)} for workload in reported()]
         kept["growth"] = {command: grown(command, others, folder, sizes_for(records), times) for command in SHOWN}
     Path(trial or RESULTS).write_text(json.dumps(kept, indent=1) + "\n", encoding="utf-8")
     return 0 if trial else agree(True)
@@ -382,7 +384,6 @@ def odd_rows(kept):
     """The file of all odd inputs."""
     head = ["workload", "Dunekettle, s", "bedtools, s", "part of bedtools' time", "MB", "MB of bedtools"]
     return "".join("\t".join(cells) + "\n" for cells in (head, *by_ratio(kept)))
-
 
 
 def odd_caption(kept):
