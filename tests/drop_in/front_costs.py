@@ -19,6 +19,7 @@ import sys
 import tempfile
 import time
 from pathlib import Path
+from typing import NamedTuple
 
 from front_tools import TOLD, TOP, drop_in, environment, install, original
 
@@ -104,8 +105,8 @@ def make_reads(folder, draw):
                        for n, start in enumerate(starts)]
         for _, start, _, read, quality, strand in reads[name]:
             cigar = draw.choice(["75M"] * 6 + ["30M2D45M", "40M1200N35M", "20M4I51M", "5S70M"])
-            sam.append(f"{read}\t{16 if strand == '-' else 0}\t{name}\t{start + 1}\t{quality}\t{cigar}\t*\t0\t0\t*\t"
-                       "*\n")
+            flag = 16 if strand == "-" else 0
+            sam.append(f"{read}\t{flag}\t{name}\t{start + 1}\t{quality}\t{cigar}\t*\t0\t0\t*\t*\n")
     write(folder, "reads.bed", (row for name in sorted(SIZES) for row in reads[name]))
     write(folder, "natural.bed", (row for name in SIZES for row in reads[name]))
     Path(folder, "reads.sam").write_text("".join(sam), encoding="utf-8")
@@ -144,8 +145,17 @@ def script_of(line, program):
     return f"{first}{bar}{program} {rest}"
 
 
-def run(line, program, folder, env):
+class Run(NamedTuple):
     """The seconds of the processor and by the clock of a call, what it wrote, and who took it."""
+
+    used: float
+    clock: float
+    wrote: tuple
+    taker: str
+
+
+def run(line, program, folder, env):
+    """One run of a call."""
     before, begun = resource.getrusage(resource.RUSAGE_CHILDREN), time.monotonic()
     with Path(folder, "out").open("wb") as out, Path(folder, "said").open("wb") as said:
         status = subprocess.run(["bash", "-c", script_of(line, program)], cwd=folder, env=env, stdout=out, stderr=said,
@@ -154,19 +164,21 @@ def run(line, program, folder, env):
     used = after.ru_utime + after.ru_stime - before.ru_utime - before.ru_stime
     file = Path(folder, "masked.fa" if "maskfasta" in line else "out")
     taker = TOLD.findall(Path(folder, "said").read_text(encoding="utf-8", errors="replace"))
-    return used, clock, (status, hashlib.sha256(file.read_bytes()).hexdigest()), taker[0][0] if taker else ""
+    wrote = status, hashlib.sha256(file.read_bytes()).hexdigest()
+    return Run(used, clock, wrote, taker[0][0] if taker else "")
 
 
 def try_call(line, theirs, ours, folder):
     """A row of the table, and whether it is as it has to be."""
     plain, fronted = environment(), environment(ours, DUNEKETTLE_TELL="1")
-    tries = [[run(line, program, folder, env) for _ in range(2)]
-             for program, env in ((theirs, plain), (ours / "bedtools", fronted))]
-    least = [[min(one[at] for one in runs) for at in (0, 1)] for runs in tries]
-    is_same = len({one[2] for runs in tries for one in runs}) == 1
-    taker = "Dunekettle" if tries[1][0][3] == "Dunekettle" else "bedtools"
-    is_cheap = taker == "bedtools" or least[1][0] <= least[0][0] * 1.1 + 0.005
-    row = [line, taker, *(f"{least[who][which]:.2f}" for which in (0, 1) for who in (0, 1))]
+    alone = [run(line, theirs, folder, plain) for _ in range(2)]
+    with_it = [run(line, ours / "bedtools", folder, fronted) for _ in range(2)]
+    used = [min(each.used for each in runs) for runs in (alone, with_it)]
+    clock = [min(each.clock for each in runs) for runs in (alone, with_it)]
+    is_same = len({each.wrote for each in alone + with_it}) == 1
+    taker = "Dunekettle" if with_it[0].taker == "Dunekettle" else "bedtools"
+    is_cheap = taker == "bedtools" or used[1] <= used[0] * 1.1 + 0.005
+    row = [line, taker, *(f"{seconds:.2f}" for seconds in used + clock)]
     print(as_row(row) + ("" if is_same else " BYTES DIFFER") + ("" if is_cheap else " DEARER"), flush=True)
     return row, is_same and is_cheap
 

@@ -112,13 +112,12 @@ def is_lost(wanted, found):
 
 
 def fakes(folder):
-    """A folder with all helper tools, each of which dies at the call that DIES says, and writes its calls into
-    CALLS."""
+    """A folder with all helper tools, each of which dies at the call that DIES says. CALLS gets their calls."""
     folder.mkdir()
     for tool in filter(shutil.which, HELPERS):
-        text = FAKE.replace("TOOL", tool).replace("REAL", shutil.which(tool)).replace(
-            "HEAD", shutil.which("head")
-        ).replace("WC", shutil.which("wc"))
+        text = FAKE.replace("TOOL", tool)
+        for word, real in (("REAL", tool), ("HEAD", "head"), ("WC", "wc")):
+            text = text.replace(word, shutil.which(real))
         (folder / tool).write_text(text.replace("mkdir", shutil.which("mkdir")), encoding="utf-8")
         (folder / tool).chmod(0o755)
     return folder
@@ -182,8 +181,8 @@ def try_full_folders(place, folder, count):
     (top / "df").write_text("#!/bin/sh\nprintf 'a\\na 1 1 99999999 1 a\\n'\n", encoding="utf-8")
     (top / "df").chmod(0o755)
     for size in (4, 8, 12, 16, 20, 24, 32, 40, 64, 128):
-        if subprocess.run(["mount", "-t", "tmpfs", "-o", f"size={size}k", "none", full], stderr=subprocess.DEVNULL,
-                          check=False).returncode:
+        mount = ["mount", "-t", "tmpfs", "-o", f"size={size}k", "none", full]
+        if subprocess.run(mount, stderr=subprocess.DEVNULL, check=False).returncode:
             print("no mount: a TMPDIR that gets full wasn't tried")
             return
         try:

@@ -7,7 +7,7 @@ import re
 import shutil
 import subprocess
 
-from front_tools import TOP, call, drop_in, install, looking, shell
+from front_tools import TOP, call, drop_in, fake, install, looking, shell
 from migrating import options
 
 MERGED = b"chr1\t2\t9\n"
@@ -151,17 +151,56 @@ PASTED = [
     ("intersect -u -a bare.bed -b f.bed bare.bed", b"1\t2\t6\n"),
     ("subtract -N -f 0.5 -a bare.bed -b f.bed", b"1\t2\t6\n"),
 ]
+# What a hint says to run.
+ADVICE = re.compile(r"(?:bytes|g\.txt|[a-zA-Z\d]|mark|alone|spaces|columns): "
+                    r"((?:zcat|awk|dunekettle bamtobed|iconv|tail|tr|LC_ALL).*?)(?:, or .*)?$")
+# Calls at a terminal, their statuses, and whether they say that they wait.
+AT_TERMINAL = [
+    ("merge", 0, True), ("bamtobed", 0, True), ("intersect -a - -b f.bed", 0, True), ("merge -i stdin", 0, True),
+    ("merge -i f.bed", 0, False), ("complement", 2, False), ("merge -c", 2, False), ("marge", 2, False),
+    ("help", 0, False),
+]
+# Calls, and whether they say that names of chromosomes are others.
+WARNINGS = {
+    "intersect -a f.bed -b bare.bed": True, "intersect -a bare.bed -b f.bed -v": True,
+    "subtract -a f.bed -b bare.bed": True, "intersect -sorted -a f.bed -b heads.bed": True,
+    "intersect -u -a f.bed -b red.bed": True, "intersect -a f.bed -b f2.bed": False,
+    "intersect -a f.bed -b none.txt": False, "intersect -a f.bed -b upper.bed": False,
+    "intersect -a bare.bed -b other.bed": False, "intersect -a f.bed -b -": False,
+    "intersect -a f.bed -b f.bed -g g.txt": False,
+}
+# What `check` says of files: their kind and their order.
+CHECKED = [
+    ("f.bed", "BED", "bytes"), ("unsorted.bed", "BED", "none"), ("natural.bed", "BED", "numbers"),
+    ("vcf.vcf", "VCF", None), ("numbers.vcf", "VCF", None), ("gff.gff", "GFF", None), ("sam.sam", "SAM", None),
+    ("utf16.bed", "UTF-16", None), ("mark.bed", "byte order mark", None), ("cr.bed", "CR", None),
+    ("s.fa", "FASTA", None), ("g.txt", "genome file", None), ("s.fa.fai", "genome file", None),
+    ("./stdin", "BED", "bytes"),
+]
+# The files of which it says that they are taken.
+TAKEN = [
+    "./stdin", "a\nb.bed", "bare.bed", "crlf.bed", "cut.bed", "cut.fa", "described.fa", "dot.bed", "f.bed", "f2.bed",
+    "g.txt", "past_end.bed", "s.fa", "s.fa.fai", "sam.sam", "two.fa", "zero_pos.sam",
+]
+# Names that a shell would run or take apart, and what `check --json` says of names that are no text.
+HOSTILE = (
+    "x;touch PWNED;", "$(touch PWNED)", "`touch PWNED`", "a b", "it's", "-x", "x=1", "a&touch PWNED&", "a|touch PWNED",
+    "*", "\\", '"', "~", "#", "\u00e9",
+)
+IN_JSON = {
+    b"\xff.bed": "\xff.bed", b"a\xe9\xc3\xa9\xed\xa0\x80": "a\xe9\xe9\xed\xa0\x80",
+    b"\x01\x7f\"\\": "\x01\x7f\"\\", "\u20ac\U0001f600.bed".encode(): "\u20ac\U0001f600.bed",
+}
 
 
 def fill(folder):
     """Writes the files."""
     for name, text in FILES.items():
         (folder / name).write_bytes(text)
-    (folder / "zip.gz").write_bytes(subprocess.run(["gzip", "-c", folder / "f.bed"], stdout=subprocess.PIPE,
-                                                   check=True).stdout)
     # A BAM file begins so, unpacked.
-    (folder / "bam.bam").write_bytes(subprocess.run(["gzip", "-c"], input=b"BAM\1rest", stdout=subprocess.PIPE,
-                                                    check=True).stdout)
+    for name, text in (("zip.gz", FILES["f.bed"]), ("bam.bam", b"BAM\1rest")):
+        packed = subprocess.run(["gzip", "-c"], input=text, stdout=subprocess.PIPE, check=True).stdout
+        (folder / name).write_bytes(packed)
 
 
 def try_hints(place, folder, count):
@@ -177,9 +216,7 @@ def try_hints(place, folder, count):
         count.expect(f"the hint of {line}", (2, True),
                      (len(lines), lines[-1].startswith("dunekettle: ") and part in lines[-1]))
         # What a hint says to run is run, if it is for a file that is more than its first bytes.
-        advice = re.search(r"(?:bytes|g\.txt|[a-zA-Z\d]|mark|alone|spaces|columns): ((?:zcat|awk|dunekettle "
-                           r"bamtobed|iconv|tail|tr|LC_ALL).*?)(?:, or .*)?$",
-                           lines[-1])
+        advice = ADVICE.search(lines[-1])
         if advice and line.startswith("merge"):
             again = " -g g.txt" if "-g" in line else ""
             script = advice[1] if "| dunekettle merge" in advice[1] else f"{advice[1]} | dunekettle merge -i -{again}"
@@ -198,8 +235,7 @@ def try_hints(place, folder, count):
 
 
 def try_options(front, folder, count):
-    """Each option that options.tsv has as not taken has as its hint the script of its row, or to leave it out, or
-    bedtools."""
+    """The hint of an option that options.tsv has as not taken: the script of its row, to leave it out, or bedtools."""
     rows = [(command, option, text) for command, words, taken, text in options() if taken == "no" for option in words
             if option.startswith("-")]
     for command, option, text in rows:
@@ -211,7 +247,7 @@ def try_options(front, folder, count):
     count.expect("options of options.tsv", True, len(rows) > 50)
 
 
-def try_pasted(folder, count):
+def try_pasted(_, folder, count):
     """A line to paste does what the call was to do, also if the program isn't on PATH."""
     place = install(folder.parent / "with recipes")
     shutil.copytree(TOP / "recipes", place / "share" / "dunekettle" / "recipes")
@@ -240,21 +276,13 @@ def at_terminal(words, folder, *first):
 
 def try_terminal(place, folder, count):
     """A command that waits for lines from the terminal says so, unless it can't be used, or reads nothing there."""
-    lines = (("merge", 0, True), ("bamtobed", 0, True), ("intersect -a - -b f.bed", 0, True),
-             ("merge -i stdin", 0, True), ("merge -i f.bed", 0, False), ("complement", 2, False),
-             ("merge -c", 2, False), ("marge", 2, False), ("help", 0, False))
-    for line, status, waits in lines:
+    for line, status, waits in AT_TERMINAL:
         said, found = at_terminal([place / "bin" / "dunekettle", *line.split()], folder)
         count.expect(f"at a terminal: {line}", (status, waits), (found, "waits for lines from the terminal" in said))
-
-
     # bedtools shows its help there, and so it does through the drop-in.
+    helps = fake(folder.parent / "helps", "bedtools", "echo help >&2\n# bedtools v2.30.0")
     for line, shows in (("merge", True), ("merge -d 5", True), ("merge -i -", False), ("merge -i f.bed", False)):
-        (folder.parent / "helps").mkdir(exist_ok=True)
-        (folder.parent / "helps" / "bedtools").write_text("#!/bin/sh\necho help >&2\n# bedtools v2.30.0\n",
-                                                          encoding="utf-8")
-        (folder.parent / "helps" / "bedtools").chmod(0o755)
-        said, found = at_terminal([drop_in(place) / "bedtools", *line.split()], folder, folder.parent / "helps")
+        said, found = at_terminal([drop_in(place) / "bedtools", *line.split()], folder, helps)
         count.expect(f"the drop-in at a terminal: {line}", ("help\r\n" if shows else "", 0), (said, found))
 
 
@@ -265,61 +293,46 @@ def try_warnings(place, folder, count):
            "other.bed": b"X\t2\t6\n", "red.bed": b"\x1b[31m\t2\t6\n"}
     for name, text in odd.items():
         (folder / name).write_bytes(text)
-    for line, warns in (("intersect -a f.bed -b bare.bed", True), ("intersect -a bare.bed -b f.bed -v", True),
-                        ("subtract -a f.bed -b bare.bed", True), ("intersect -sorted -a f.bed -b heads.bed", True),
-                        ("intersect -u -a f.bed -b red.bed", True), ("intersect -a f.bed -b f2.bed", False),
-                        ("intersect -a f.bed -b none.txt", False), ("intersect -a f.bed -b upper.bed", False),
-                        ("intersect -a bare.bed -b other.bed", False), ("intersect -a f.bed -b -", False),
-                        ("intersect -a f.bed -b f.bed -g g.txt", False)):
+    for line, warns in WARNINGS.items():
         output, said, status = call([front, *line.split()], folder, looking(), input=FILES["bare.bed"])
         lines = said.splitlines()
         count.expect(f"a warning of {line}", (1 if warns else 0, 0), (len(lines), status))
-        count.expect(f"its words of {line}", warns,
-                     any(text.startswith(
-                             "dunekettle: warning: "
-                         ) and "names are compared byte for byte" in text and text.isprintable() for text in lines))
+        is_said = any(text.startswith("dunekettle: warning: ") and "names are compared byte for byte" in text
+                      and text.isprintable() for text in lines)
+        count.expect(f"its words of {line}", warns, is_said)
         plain = call([front, *line.split()], folder, looking(DUNEKETTLE_HINTS="0"), input=FILES["bare.bed"])
         count.expect(f"no warning of {line}", (output, "", 0), plain)
 
 
 def try_help(place, folder, count):
-    """Help, versions and the check of files."""
-    front = place / "bin" / "dunekettle"
-    program = place / "bin" / "dunekettle-bedtools"
-    for command in ("merge", "complement", "intersect", "subtract", "genomecov", "bamtobed", "maskfasta"):
-        gave = [call([front, *words], folder, looking())
-                for words in (["help", command], [command, "--help"], [command, "-h"])]
+    """Help and versions."""
+    front, program = place / "bin" / "dunekettle", place / "bin" / "dunekettle-bedtools"
+    for command in ("merge", "complement", "intersect", "subtract", "genomecov", "bamtobed", "maskfasta", "check",
+                    "report"):
+        first, *others = [call([front, *words], folder, looking())
+                          for words in (["help", command], [command, "--help"], [command, "-h"])]
+        output, _, status = first
         count.expect(f"help of {command}", (True, True, 0),
-                     (gave[0] == gave[1] == gave[2], gave[0][0].startswith(f"dunekettle {command} ".encode()),
-                      gave[0][2]))
+                     (others == [first, first], output.startswith(f"dunekettle {command} ".encode()), status))
         # Each option that the help names is one of the program.
-        for line in gave[0][0].decode().splitlines():
-            if line.startswith("  -"):
-                unknown = (b"" if "unknown option" not in call([program, command, line.split()[0]], folder,
-                                                               looking())[1] else line)
-                count.expect(f"an option of {command}", b"", unknown)
-    for command in ("check", "report"):
-        gave = [call([front, *words], folder, looking())
-                for words in (["help", command], [command, "--help"], [command, "-h"])]
-        count.expect(f"help of {command}", (True, True),
-                     (gave[0] == gave[1] == gave[2], gave[0][0].startswith(f"dunekettle {command} ".encode())))
+        for line in output.decode().splitlines():
+            if line.startswith("  -") and command not in ("check", "report"):
+                said = call([program, command, line.split()[0]], folder, looking())[1]
+                count.expect(f"an option of {command}", (line, False), (line, "unknown option" in said))
     count.expect("version", True, call([front, "--version"], folder, looking())[0].startswith(b"Dunekettle "))
     count.expect("help of nothing", 2, call([front, "help", "nothing"], folder, looking())[2])
-    output, _, status = call([front, "check", "--json", *(name for name in FILES if name != "-x"), "none.bed"], folder,
-                             looking())
+    try_check(front, folder, count)
+
+
+def try_check(front, folder, count):
+    """The check of files."""
+    names = [name for name in FILES if name != "-x"]
+    output, _, status = call([front, "check", "--json", *names, "none.bed"], folder, looking())
     reports = {report["file"]: report for report in json.loads(output)}
     count.expect("check: status", 1, status)
-    for name, kind, order in (("f.bed", "BED", "bytes"), ("unsorted.bed", "BED", "none"),
-                              ("natural.bed", "BED", "numbers"), ("vcf.vcf", "VCF", None), ("numbers.vcf", "VCF", None),
-                              ("gff.gff", "GFF", None), ("sam.sam", "SAM", None), ("utf16.bed", "UTF-16", None),
-                              ("mark.bed", "byte order mark", None), ("cr.bed", "CR", None), ("s.fa", "FASTA", None),
-                              ("g.txt", "genome file", None), ("s.fa.fai", "genome file", None),
-                              ("./stdin", "BED", "bytes")):
+    for name, kind, order in CHECKED:
         count.expect(f"check: {name}", (kind, order), (reports[name]["kind"], reports[name]["order"]))
-    count.expect("check: what is taken",
-                 ["./stdin", "a\nb.bed", "bare.bed", "crlf.bed", "cut.bed", "cut.fa", "described.fa", "dot.bed",
-                  "f.bed", "f2.bed", "g.txt", "past_end.bed", "s.fa", "s.fa.fai", "sam.sam", "two.fa", "zero_pos.sam"],
-                 sorted(name for name, report in reports.items() if report["taken"]))
+    count.expect("check: what is taken", TAKEN, sorted(name for name, report in reports.items() if report["taken"]))
     count.expect("check: strands and lines", (1, 1, 2),
                  (reports["dot.bed"]["without_strand"], reports["crlf.bed"]["blank_lines"],
                   reports["crlf.bed"]["cr_lf"]))
@@ -329,37 +342,26 @@ def try_help(place, folder, count):
     count.expect("check of two", (0, True), (status, b"chr1: in 1 of 2 files" in output))
 
 
-def try_names(place, folder, count):
-    """Names of files that a shell would run, or a terminal obey: a hint is one line, and what it says to run is
-    safe."""
-    odd = folder.parent / "odd names"
-    odd.mkdir()
-    (odd / "g.txt").write_bytes(FILES["g.txt"])
-    front, env = place / "bin" / "dunekettle", looking(place / "bin")
-    packed = (folder / "zip.gz").read_bytes()
-    parts = ("x;touch PWNED;", "$(touch PWNED)", "`touch PWNED`", "a b", "it's", "-x", "x=1", "a&touch PWNED&",
-             "a|touch PWNED", "*", "\\", '"', "~", "#", "\u00e9")
-    for name in parts:
-        for text, end, words in ((FILES["unsorted.bed"], ".bed", []), (FILES["unsorted.bed"], ".bed", ["-g", "g.txt"]),
-                                 (packed, ".gz", ["-d", "5"]), (FILES["no_base.bed"] + b"chr1\t7\t9\n", ".bed", [])):
-            file = odd / (name + end)
-            file.write_bytes(text)
-            _, said, status = call([front, "merge", "-i", file.name, *words], odd, env)
-            lines = said.splitlines()
-            count.expect(f"a hint of {file.name}", (1, 2), (status, len(lines)))
-            advice = re.search(r"((?:zcat|awk|LC_ALL).*?)(?:, or .*)?$", lines[-1])
-            script = (advice[1] if "| dunekettle" in advice[1]
-                      else advice[1] + " | dunekettle merge -i - " + " ".join(words))
-            output, said, status = shell(script, odd, env)
-            count.expect(f"what it says to run: {script}", (True, "", 0, False),
-                         (output.startswith(b"chr1"), said, status, (odd / "PWNED").exists()))
-            output, _, _ = call([front, "check", *(words if "-g" in words else []), "--", file.name], odd, env)
-            lines = output.decode().splitlines()
-            if len(lines) > 2:
-                output, said, status = shell(f"{lines[2]} > /dev/null", odd, env)
-                count.expect(f"what check says to run: {lines[2]}", ("", 0, False),
-                             (said, status, (odd / "PWNED").exists()))
-            file.unlink()
+def try_name(file, words, front, env, count):
+    """A file with a hostile name and a fault: what its hint and its check say to run is safe."""
+    odd = file.parent
+    _, said, status = call([front, "merge", "-i", file.name, *words], odd, env)
+    lines = said.splitlines()
+    count.expect(f"a hint of {file.name}", (1, 2), (status, len(lines)))
+    advice = re.search(r"((?:zcat|awk|LC_ALL).*?)(?:, or .*)?$", lines[-1])[1]
+    script = advice if "| dunekettle" in advice else f"{advice} | dunekettle merge -i - {' '.join(words)}"
+    output, said, status = shell(script, odd, env)
+    count.expect(f"what it says to run: {script}", (True, "", 0, False),
+                 (output.startswith(b"chr1"), said, status, (odd / "PWNED").exists()))
+    output, _, _ = call([front, "check", *(words if "-g" in words else []), "--", file.name], odd, env)
+    lines = output.decode().splitlines()
+    if len(lines) > 2:
+        output, said, status = shell(f"{lines[2]} > /dev/null", odd, env)
+        count.expect(f"what check says to run: {lines[2]}", ("", 0, False), (said, status, (odd / "PWNED").exists()))
+
+
+def try_unprintable(odd, front, env, count):
+    """Names of files, and names in files, that a terminal would obey."""
     for name in ("a\nb", "a\x1b[31m", "a\x07"):
         (odd / name).write_bytes(FILES["unsorted.bed"])
         said = call([front, "merge", "-i", name], odd, env)[1].rpartition("dunekettle: ")[2]
@@ -368,19 +370,19 @@ def try_names(place, folder, count):
         output = call([front, "check", name], odd, env)[0].decode()
         count.expect(f"check, unprintable: {name!r}", [],
                      [letter for letter in output if letter < " " and letter != "\n"])
-    (odd / "escape.bed").write_bytes(b"c\x1b[31m\t9\t12\nc\x1b[31m\t2\t6\n")
-    (odd / "escape.txt").write_bytes(b"\x1b[31m\t9\n")
+    for name, text in {"escape.bed": b"c\x1b[31m\t9\t12\nc\x1b[31m\t2\t6\n", "escape.txt": b"\x1b[31m\t9\n",
+                       "g.bed": b"chr1\t9\t12\n", "b.bed": b"chr1\t2\t6\n"}.items():
+        (odd / name).write_bytes(text)
     for line in ("merge -i escape.bed", "merge -i g.bed -g escape.txt", "merge -i escape.bed -g g.txt"):
-        (odd / "g.bed").write_bytes(b"chr1\t9\t12\n")
-        count.expect(f"names in a file: {line}", False,
-                     "\x1b" in call([front, *line.split()], odd, env)[1].splitlines()[-1])
-    (odd / "b.bed").write_bytes(b"chr1\t2\t6\n")
-    count.expect("check: names in a file", False, b"\x1b" in call([front, "check", "escape.bed", "b.bed"], odd, env)[0])
-    shutil.copy(folder / "zip.gz", odd / "zip.gz")
-    said = call([front, "intersect", "-a", "-", "-b", "zip.gz"], odd, env, input=b"chr1\t2\t6\n")[1].splitlines()[-1]
-    count.expect("a pipe beside another", "dunekettle: it is compressed by gzip: zcat zip.gz", said)
-    for name, wanted in ((b"\xff.bed", "\xff.bed"), (b"a\xe9\xc3\xa9\xed\xa0\x80", "a\xe9\xe9\xed\xa0\x80"),
-                         (b"\x01\x7f\"\\", "\x01\x7f\"\\"), ("\u20ac\U0001f600.bed".encode(), "\u20ac\U0001f600.bed")):
+        said = call([front, *line.split()], odd, env)[1]
+        count.expect(f"names in a file: {line}", False, "\x1b" in said.splitlines()[-1])
+    output = call([front, "check", "escape.bed", "b.bed"], odd, env)[0]
+    count.expect("check: names in a file", False, b"\x1b" in output)
+
+
+def try_json(odd, front, env, count):
+    """Names in the report of `check` that are no text, an option, or a folder."""
+    for name, wanted in IN_JSON.items():
         (odd / os.fsdecode(name)).write_bytes(b"chr1\t2\t6\n")
         output = call([front, "check", "--json", os.fsdecode(name)], odd, env)[0]
         try:
@@ -389,10 +391,31 @@ def try_names(place, folder, count):
             found = str(fault)
         count.expect(f"check --json of {name}", wanted, found)
     (odd / "-x").write_bytes(b"chr1\t2\t6\n")
-    count.expect("check -- -x", (0, True),
-                 (lambda gave: (gave[2], gave[0].startswith(b"-x: BED")))(call([front, "check", "--", "-x"], odd, env)))
+    output, _, status = call([front, "check", "--", "-x"], odd, env)
+    count.expect("check -- -x", (0, True), (status, output.startswith(b"-x: BED")))
     report = json.loads(call([front, "check", "--json", "."], odd, env)[0])[0]
     count.expect("check of a folder", (None, "it is a directory"), (report["kind"], report["fault"]))
+
+
+def try_names(place, folder, count):
+    """Names that a shell would run, or a terminal obey: a hint is one line, and what it says to run is safe."""
+    odd = folder.parent / "odd names"
+    odd.mkdir()
+    (odd / "g.txt").write_bytes(FILES["g.txt"])
+    front, env = place / "bin" / "dunekettle", looking(place / "bin")
+    packed = (folder / "zip.gz").read_bytes()
+    for name in HOSTILE:
+        for text, end, words in ((FILES["unsorted.bed"], ".bed", []), (FILES["unsorted.bed"], ".bed", ["-g", "g.txt"]),
+                                 (packed, ".gz", ["-d", "5"]), (FILES["no_base.bed"] + b"chr1\t7\t9\n", ".bed", [])):
+            file = odd / (name + end)
+            file.write_bytes(text)
+            try_name(file, words, front, env, count)
+            file.unlink()
+    try_unprintable(odd, front, env, count)
+    (odd / "zip.gz").write_bytes(packed)
+    said = call([front, "intersect", "-a", "-", "-b", "zip.gz"], odd, env, input=b"chr1\t2\t6\n")[1].splitlines()[-1]
+    count.expect("a pipe beside another", "dunekettle: it is compressed by gzip: zcat zip.gz", said)
+    try_json(odd, front, env, count)
     for file in sorted((TOP / "front").glob("*")):
         if file.suffix != ".txt":
             wide = [number for number, text in enumerate(file.read_text(encoding="utf-8").splitlines(), 1)

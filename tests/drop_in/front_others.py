@@ -60,50 +60,55 @@ def try_links(place, folder, count):
                      (found[2], "isn't there" in found[1], (folder / "hit").exists()))
 
 
+def open_folder(place, scratch, mode, hostile):
+    """A folder that is open to others, with copies of the front below it, and parts and a program of others."""
+    # The last of these is in the open folder itself.
+    for where in (scratch / "bin", scratch / "both", scratch / "open"):
+        where.mkdir(parents=True)
+        for name in ("bedtools", "mergeBed", "dunekettle"):
+            shutil.copy(place / "bin" / "dunekettle", where / name)
+    for where in (scratch, scratch / "open"):
+        (where / "lib" / "dunekettle").mkdir(parents=True)
+        for part in (TOP / "front").glob("*.*"):
+            (where / "lib" / "dunekettle" / part.name).write_text(hostile, encoding="utf-8")
+        where.chmod(mode)
+    shutil.copy(place / "bin" / "dunekettle-bedtools", scratch / "both")
+    (scratch / "open" / "dunekettle-bedtools").write_text(hostile, encoding="utf-8")
+    (scratch / "open" / "dunekettle-bedtools").chmod(0o755)
+    return install(scratch / "own")
+
+
+def try_copy(place, bin_folder, folder, count):
+    """The calls of a copy: those of others aren't read."""
+    for line in ("bedtools merge -i a.bed", "mergeBed -i a.bed", "dunekettle merge -i a.bed",
+                 "bedtools merge -i nowhere.bed", "dunekettle merge -i nowhere.bed", "dunekettle check a.bed"):
+        program, *words = line.split()
+        if not (bin_folder / program).exists():
+            continue
+        output, said, status = call([bin_folder / program, *words], folder, looking(place / "bin"))
+        wanted = (True, True, 1) if "nowhere.bed" in words else (True, False, 0)
+        is_right = (output == MERGED if "a.bed" in words and "merge" in line
+                    else output.startswith(b"a.bed: BED") if "check" in words else not output)
+        count.expect(f"{line} by a copy in {bin_folder.parent.name}/{bin_folder.name}: {said[:200]}",
+                     (wanted, False), ((is_right, said != "", status), (folder / "hit").exists()))
+        (folder / "hit").unlink(missing_ok=True)
+
+
 def try_copies(place, folder, count):
-    """Copies of the front below a folder that is open to all, where others have put parts and a program, which aren't
-    read."""
+    """Copies of the front below a folder that is open to all, where others have put parts and a program."""
     hostile = f"#!/bin/sh\ntouch '{folder}/hit'\nexit 0\n"
     for mode in (0o1777, 0o777):
         scratch = folder.parent / f"scratch {mode:o}"
-        # The last of these is in the open folder itself.
-        for where in (scratch / "bin", scratch / "both", scratch / "open"):
-            where.mkdir(parents=True)
-            for name in ("bedtools", "mergeBed", "dunekettle"):
-                shutil.copy(place / "bin" / "dunekettle", where / name)
-        for where in (scratch, scratch / "open"):
-            (where / "lib" / "dunekettle").mkdir(parents=True)
-            for part in ((TOP / "front").glob("*.*")):
-                (where / "lib" / "dunekettle" / part.name).write_text(hostile, encoding="utf-8")
-            where.chmod(mode)
-        shutil.copy(place / "bin" / "dunekettle-bedtools", scratch / "both")
-        (scratch / "open" / "dunekettle-bedtools").write_text(hostile, encoding="utf-8")
-        (scratch / "open" / "dunekettle-bedtools").chmod(0o755)
-        own = install(scratch / "own")
+        own = open_folder(place, scratch, mode, hostile)
         # In the other one they may replace bin/ itself, and need no parts.
         is_sticky = mode & 0o1000
         for bin_folder in (scratch / "bin", own / "bin", drop_in(own),
                            *((scratch / "both", scratch / "open") if is_sticky else ())):
-            for line in ("bedtools merge -i a.bed", "mergeBed -i a.bed", "dunekettle merge -i a.bed",
-                         "bedtools merge -i nowhere.bed", "dunekettle merge -i nowhere.bed", "dunekettle check a.bed"):
-                program, *words = line.split()
-                if not (bin_folder / program).exists():
-                    continue
-                output, said, status = call([bin_folder / program, *words], folder, looking(place / "bin"))
-                wanted = (True, True, 1) if "nowhere.bed" in words else (True, False, 0)
-                is_right = (output == MERGED if "a.bed" in words and "merge" in line
-                            else output.startswith(b"a.bed: BED") if "check" in words else not output)
-                count.expect(f"{line} by a copy in {bin_folder.parent.name}/{bin_folder.name}: {said[:200]}",
-                             (wanted, False), ((is_right, said != "", status), (folder / "hit").exists()))
-                (folder / "hit").unlink(missing_ok=True)
-    scratch = folder.parent / f"scratch {0o1777:o}"
-    output, said, status = call(["dunekettle", "merge", "-i", "a.bed"], folder, looking(scratch / "both"))
-    count.expect("a copy of both on PATH",
-                 (b"",
-                  f"dunekettle: others may put files beside {scratch}/both/dunekettle-bedtools: put a link in its "
-                  "place\n",
-                  127, False),
-                 (output, said, status, (folder / "hit").exists()))
+            try_copy(place, bin_folder, folder, count)
+    both = folder.parent / f"scratch {0o1777:o}" / "both"
+    fault = f"dunekettle: others may put files beside {both}/dunekettle-bedtools: put a link in its place\n"
+    output, said, status = call(["dunekettle", "merge", "-i", "a.bed"], folder, looking(both))
+    count.expect("a copy of both on PATH", (b"", fault, 127, False), (output, said, status, (folder / "hit").exists()))
 
 
 def try_tell(place, folder, count):
@@ -112,10 +117,8 @@ def try_tell(place, folder, count):
     env = looking(drop_in(place), DUNEKETTLE_TELL=str(folder / "told"))
     count.expect("TELL on a named pipe without a reader", (MERGED, "", 0),
                  call([shutil.which("timeout"), "20", "bedtools", "merge", "-i", "a.bed"], folder, env))
-    output, _, status = call(["bash", "-c",
-                              "(read -r line < told; echo \"$line\" >&2) & sleep 0.3; bedtools merge -i a.bed > "
-                              "/dev/null; wait"],
-                             folder, env)
+    script = '(read -r line < told; echo "$line" >&2) & sleep 0.3; bedtools merge -i a.bed > /dev/null; wait'
+    output, _, status = call(["bash", "-c", script], folder, env)
     count.expect("TELL on a named pipe with a reader", (b"", 0), (output, status))
     (folder / "told").unlink()
 
@@ -135,8 +138,7 @@ def try_options_of_shells(place, folder, count):
 
 
 def try_failed_opens(place, folder, count):
-    """An open of /dev/null that fails, at each of a call in turn: the right answer or a fault, and no file is
-    changed."""
+    """An open of /dev/null that fails, at each of a call: the right answer or a fault, and no file is changed."""
     if not shutil.which("cc"):
         print("no cc: opens that fail were passed over")
         return
@@ -216,9 +218,8 @@ def try_others(place, folder, count):
     """All of these, in a folder with a.bed and g.txt."""
     for name in ("b.bed", "c.bed"):
         shutil.copy(folder / "a.bed", folder / name)
-    (folder / "few.bed").write_text("".join((folder /
-                                             "a.bed").read_text(encoding="utf-8").splitlines(keepends=True)[:9]),
-                                    encoding="utf-8")
+    lines = (folder / "a.bed").read_text(encoding="utf-8").splitlines(keepends=True)
+    (folder / "few.bed").write_text("".join(lines[:9]), encoding="utf-8")
     (folder / "unsorted.bed").write_text("chr1\t9\t12\nchr1\t2\t6\n", encoding="utf-8")
     for trial in (try_links, try_copies, try_tell, try_options_of_shells, try_failed_opens, try_left_folders,
                   try_reused_numbers):

@@ -27,6 +27,9 @@ ODD = ["", "#c", "# c d", "track x", "TRACK\t5\t9", ">x\t1\t2", "browser", "visi
 FIRST = ["#c", "track name=x", "browser position", "chrom\tstart\tend", "##fileformat=VCFv4.2", "Track1\t2\t6", "#",
          "\ufeff#c", "\ufeffchr1\t0\t1", "chrom\t5\t7"]
 KINDS = ["plain"] * 8 + ["no base", "varying", "first", "odd", "odd", "crlf", "no end", "no strand", "scores"]
+FRACTIONS = ("0.1", "0.2", "0.25", "0.3", "0.5", "0.7", "0.9", "0.99", "0.33", "0.333", "0.001", "0.999", "1.0")
+# The strands of some kinds; the others have + and -.
+STRANDS = {"scores": ["0.5", "7", "+", "-", "."], "no strand": "+-."}
 # What htslib reads otherwise than Dunekettle, or refuses: a column of an alignment, and what is in it.
 SAM_ODD = [(0, "q" * 255), (0, "q" * 250), (0, ""), (1, "016"), (1, "0x10"), (2, "other"), (2, "*"), (3, "05"),
            (4, "256"), (5, "010M"), (5, "5M268435456N5M"), (5, "5M268435455N5M"), (5, "10m"), (6, "other"), (6, "="),
@@ -43,8 +46,7 @@ def features(draw):
     for _ in range(draw.choice([0, 1, 3, 8, 20])):
         start = draw.choice([draw.randrange(60), draw.randrange(60), draw.randrange(200_000)])
         end = start + (0 if kind == "no base" and draw.random() < 0.2 else draw.choice([1, 2, 5, 10, 30, 3000, 40_000]))
-        strand = draw.choice(["0.5", "7", "+", "-", "."] if kind == "scores" else "+-." if kind == "no strand"
-                             else "+-")
+        strand = draw.choice(STRANDS.get(kind, "+-"))
         row = [draw.choice(CHROMOSOMES[: draw.choice([1, 2, 4])]), start, end, f"n{draw.randrange(9)}",
                draw.randrange(100), strand]
         row += [start, end, "0", 1, f"{end - start},", "0,"]
@@ -87,8 +89,8 @@ def masks(draw):
 
 def alignments(draw):
     """A SAM file."""
-    lines = ["@HD\tVN:1.6", *(f"@SQ\tSN:{name}\tLN:1000000" for name in CHROMOSOMES)][: None if draw.random() < 0.9
-                                                                                      else 0]
+    header = ["@HD\tVN:1.6", *(f"@SQ\tSN:{name}\tLN:1000000" for name in CHROMOSOMES)]
+    lines = header if draw.random() < 0.9 else []
     for _ in range(draw.randrange(6)):
         cigar = draw.choice(["10M", "10M", "5M3N5M", "4M2D4M", "3S7M", "5M2I3M",
                              draw.choice(["*", "4S", "2M3N2N3M", "3N5M", "5M0N5M"])])
@@ -189,20 +191,17 @@ def try_streams(draw, theirs, ours, folder, count):
 
 
 def try_fractions(draw, theirs, ours, folder, count):
-    """Pairs that are a base from the fraction, in records up to the length at which 32-bit numbers aren't exact any
-    longer."""
-    for fraction in ("0.1", "0.2", "0.25", "0.3", "0.5", "0.7", "0.9", "0.99", "0.33", "0.333", "0.001", "0.999",
-                     "1.0"):
+    """Pairs that are a base from the fraction, in records up to the length at which 32-bit numbers stay exact."""
+    for fraction in FRACTIONS:
         decimals = len(fraction.split(".")[1].rstrip("0"))
         limit, pairs = 16_777 // 10**decimals * 1000, []
         for _ in range(400):
             length = draw.choice([draw.randrange(1, limit), limit - 1 - draw.randrange(50), draw.randrange(1, 200)])
             least = -(-int(fraction.replace(".", "")) * length // 10 ** len(fraction.split(".")[1]))
             pairs.append((length, max(1, min(length, least + draw.choice([-1, -1, 0, 0, 1])))))
-        (folder / "a.bed").write_text("".join(f"c{n:03}\t0\t{length}\n" for n, (length, _) in enumerate(pairs)),
-                                      encoding="utf-8")
-        (folder / "b.bed").write_text("".join(f"c{n:03}\t0\t{shared}\n" for n, (_, shared) in enumerate(pairs)),
-                                      encoding="utf-8")
+        for file, ends in zip(("a.bed", "b.bed"), zip(*pairs)):
+            lines = (f"c{n:03}\t0\t{end}\n" for n, end in enumerate(ends))
+            (folder / file).write_text("".join(lines), encoding="utf-8")
         for line in (["intersect", "-u"], ["intersect", "-u", "-r"], ["subtract"]):
             line = [*line, "-f", fraction, "-a", "a.bed", "-b", "b.bed"]
             wanted, found = (ran(theirs, line, folder, looking()),

@@ -19,9 +19,10 @@ import sys
 import tempfile
 import time
 from pathlib import Path
+from typing import NamedTuple
 
 from front_others import try_others
-from front_tools import TOLD, Count, call, drop_in, install, is_busy, looking, original
+from front_tools import TOLD, Count, call, drop_in, fake, install, is_busy, looking, original
 
 SHELLS = ("dash", "bash --posix", "busybox sh")
 # Each stream is longer than a pipe holds.
@@ -46,8 +47,6 @@ SCRIPTS = [
     "gzip -c wide.bed > z.gz; PROGRAM intersect -wb -a z.gz -b wide.bed",
     "PROGRAM intersect -wa -wb -a wide.bed -b a.bed | head -n 3",
 ]
-
-
 # Two named pipes, or streams of them, of one producer, which opens and writes them one by one or side by side, and how
 # much of a stream each way needs room for. bedtools alone waits for ever, unless the first is that of -g.
 TWINS = [
@@ -65,23 +64,31 @@ TWINS = [
 ]
 
 
-def compare(name, script, theirs, place, folder, count, **more):
+class Ways(NamedTuple):
+    """What a script is run by, where, and what counts it."""
+
+    theirs: str
+    place: Path
+    folder: Path
+    count: Count
+
+
+def compare(name, script, ways, **more):
     """A script in both ways: the same bytes and the same status."""
-    wanted = call(["bash", "-c", script.replace("PROGRAM", theirs)], folder, looking())
-    found = call(["bash", "-c", script.replace("PROGRAM", str(drop_in(place) / "bedtools"))], folder,
-                 looking(drop_in(place), **more))
-    count.expect(f"{name}: {script}", (wanted[0], wanted[2]), (found[0], found[2]))
-    return found
+    ours = drop_in(ways.place)
+    wanted = call(["bash", "-c", script.replace("PROGRAM", ways.theirs)], ways.folder, looking())
+    found = call(["bash", "-c", script.replace("PROGRAM", str(ours / "bedtools"))], ways.folder, looking(ours, **more))
+    ways.count.expect(f"{name}: {script}", (wanted[0], wanted[2]), (found[0], found[2]))
 
 
 def try_rooms(theirs, place, folder, count):
     """Streams that are short and long, in the temporary folders that one may have."""
-    temporary = folder.parent / "temporary"
+    temporary, ways = folder.parent / "temporary", Ways(theirs, place, folder, count)
     temporary.mkdir()
     for room in ("", "200", "70000", "0", "x"):
         for script in SCRIPTS:
             more = {"DUNEKETTLE_ROOM": room} if room else {}
-            compare(f"room {room}", script, theirs, place, folder, count, TMPDIR=str(temporary), **more)
+            compare(f"room {room}", script, ways, TMPDIR=str(temporary), **more)
             count.expect(f"what {script} leaves", [], list(temporary.iterdir()))
     try_twins(theirs, place, folder, temporary, count)
     rooms = {"missing": "/nowhere", "a file": str(folder / "a.bed"), "read-only": "/proc",
@@ -89,14 +96,14 @@ def try_rooms(theirs, place, folder, count):
     (folder.parent / "a b").mkdir()
     full = folder.parent / "full"
     full.mkdir()
-    if not subprocess.run(["mount", "-t", "tmpfs", "-o", "size=64k", "none", full], stderr=subprocess.DEVNULL,
-                          check=False).returncode:
+    mount = ["mount", "-t", "tmpfs", "-o", "size=64k", "none", full]
+    if not subprocess.run(mount, stderr=subprocess.DEVNULL, check=False).returncode:
         rooms["full"] = str(full)
     else:
         print("no mount: a full TMPDIR was tried by a df and a head of our own alone")
     for name, where in rooms.items():
         for script in SCRIPTS[:8]:
-            compare(f"TMPDIR {name}", script, theirs, place, folder, count, TMPDIR=where)
+            compare(f"TMPDIR {name}", script, ways, TMPDIR=where)
     if "full" in rooms:
         subprocess.run(["umount", full], check=True)
 
@@ -116,27 +123,19 @@ def try_twins(theirs, place, folder, temporary, count):
             for room in ("1000000", "200", "70000"):
                 if int(room) < needed or not shutil.which(shell.split()[0]):
                     continue
-                script = (f"rm -f p q; mkfifo p q; ({producer}) & timeout 60 {shell} {drop_in(place) / 'bedtools'} "
-                          f"{line}")
+                ours = f"{shell} {drop_in(place) / 'bedtools'}"
+                script = f"rm -f p q; mkfifo p q; ({producer}) & timeout 60 {ours} {line}"
                 found = call(["bash", "-c", script], folder,
                              looking(drop_in(place), DUNEKETTLE_ROOM=room, TMPDIR=str(temporary)))
                 count.expect(f"{producer}: {shell} {line}, room {room}", (wanted[0], 0, []),
                              (found[0], found[2], list(temporary.iterdir())))
 
 
-def fake(folder, name, script):
-    """A folder with a tool of ours."""
-    folder.mkdir(exist_ok=True)
-    (folder / name).write_text(f"#!/bin/sh\n{script}\n", encoding="utf-8")
-    (folder / name).chmod(0o755)
-    return folder
-
-
 def try_losses(place, folder, count):
     """A copy that fails, and one that isn't fed any longer: a fault and a status."""
     broken = fake(folder.parent / "broken head", "head",
-                  f'[ "$1" != -c ] || [ "$2" -le 1 ] || {{ {shutil.which("head")} -c 100; exit 1; }}; exec '
-                  f'{shutil.which("head")} "$@"')
+                  f'[ "$1" != -c ] || [ "$2" -le 1 ] || {{ {shutil.which("head")} -c 100; exit 1; }}; '
+                  f'exec {shutil.which("head")} "$@"')
     env = looking(drop_in(place), broken)
     for script in ("cat wide.bed | bedtools intersect -wo -a - -b a.bed",
                    "bedtools intersect -u -a <(cat a.bed) -b <(cat a.bed)"):

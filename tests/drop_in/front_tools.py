@@ -66,6 +66,19 @@ def looking(*first, **more):
     return environment(*first, **{"DUNEKETTLE_SMALL": "0", **more})
 
 
+def with_path(*folders, **more):
+    """The same with these folders on PATH, and no others."""
+    return {**looking(**more), "PATH": os.pathsep.join(map(str, folders))}
+
+
+def fake(folder, name, script):
+    """A folder with a tool of ours: a script of sh."""
+    folder.mkdir(exist_ok=True)
+    (folder / name).write_text(f"#!/bin/sh\n{script}\n", encoding="utf-8")
+    (folder / name).chmod(0o755)
+    return folder
+
+
 # What a shell starts in the background, or by nohup, ignores some signals, and so would what is tried.
 for ignored in (signal.SIGHUP, signal.SIGINT, signal.SIGQUIT, signal.SIGTERM):
     if signal.getsignal(ignored) == signal.SIG_IGN:
