@@ -25,12 +25,14 @@ use Rattle.bt_runs.specs.model.Gaps.{complement}
 use Rattle.bt_runs.specs.model.Merged.{ordered_runs, places_of, strand_runs}
 use Rattle.bt_runs.specs.declared.merge.merge_strand.MergeStrand.{MergeStrand}
 use Rattle.bt_runs.specs.declared.merge.merge_strand.MergeStrand.TheVariants.{Each}
-use Rattle.bt_tool.specs.model.Report.{entries_in, order_in_use, Inputs, report_of}
+use Rattle.bt_tool.specs.model.Report.{Inputs, report_of}
+use Rattle.bt_tool.specs.model.Behaviour.{entries_in, order_in_use}
 use Rattle.bt_tool.specs.declared.planning.plan_type.Command.TheVariants.{Merge, Complement, Coverage, Intersect, Subtract, BamToBed}
 use Rattle.bt_laws.specs.WholeRuns.{RunsWithoutFault, first_records, second_records, piped, two_texts}
 use Rattle.bt_tool.specs.declared.planning.plan_type.Command.{Command}
 use Rattle.bt_lines.specs.declared.fault.Input.TheVariants.{First}
-use Rattle.bt_seq.specs.model.Alignment.{Alignment, read_name, strand_sign, sam_format}
+use Rattle.bt_seq.specs.model.Alignment.{Alignment, sam_format}
+use Rattle.bt_seq.specs.model.BedLines.{read_name, strand_sign}
 use Rattle.bt_lines.specs.declared.fault.Kind.TheVariants.{OutOfOrder}
 
 -- What a text is as an input of the next command, in an order of the chromosomes.

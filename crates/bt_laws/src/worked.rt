@@ -44,7 +44,7 @@ pub fn strands()
 
 /// Marks of segments (SAM specification, section 1.4, FLAG: 0x40 the first segment of the template, 0x80 the last one, 0x10
 /// reversed, 0x4 unmapped), and what CIGARs cover (there, field 6).
-#[tactic(auto, unfolding(bt_tool::specs::model::Report::report_of, bt_lines::specs::model::Lines::lines_from, bt_lines::specs::model::Lines::value_of, bt_bed::specs::model::Good::good_after, bt_bed::specs::model::Good::line_says, bt_bed::specs::model::BedLine::record_of, bt_seq::specs::model::Alignment::alignment_of, bt_seq::specs::model::Alignment::fields_say, bt_seq::specs::model::Alignment::blocks_of, bt_seq::specs::model::Alignment::operations_in))]
+#[tactic(auto, unfolding(bt_tool::specs::model::Report::report_of, bt_lines::specs::model::Lines::lines_from, bt_lines::specs::model::Lines::value_of, bt_bed::specs::model::Good::good_after, bt_bed::specs::model::Good::line_says, bt_bed::specs::model::BedLine::record_of, bt_seq::specs::model::Alignment::alignment_of, bt_seq::specs::model::Alignment::fields_say, bt_seq::specs::model::BedLines::blocks_of, bt_seq::specs::model::Cigar::operations_in))]
 pub fn alignments()
     ensures neither { IsNamed (codes "0") (codes "r") (codes "+") }
     ensures first { IsNamed (codes "64") (codes "r/1") (codes "+") }

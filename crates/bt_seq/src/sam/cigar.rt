@@ -1,7 +1,7 @@
 //! CIGAR strings: how an alignment goes along the reference.
 
 ghost use Rattle.std.specs.Prelude.{◌≡◌, IfSome, Some, min, option_map};
-ghost use Rattle.bt_seq.specs.model.Alignment.{consumes_reference, covered_by, is_letter, operations_in, operations_of};
+ghost use Rattle.bt_seq.specs.model.Cigar.{consumes_reference, covered_by, is_letter, operations_in, operations_of};
 ghost use Rattle.bt_seq.specs.calls.Alignments.{span_with};
 ghost use Rattle.bt_seq.specs.inside.Sam.{IsFirstOperation, LeavesShorter};
 

@@ -21,7 +21,8 @@ use Rattle.bt_sweep.specs.model.Lines.{intersect, lines_for, piece_line, pieces}
 use Rattle.bt_sweep.specs.calls.LineLaws.{spans_of}
 use Rattle.bt_sweep.specs.declared.output.shape.Shape.TheVariants.{Cut, Pieces}
 use Rattle.bt_sweep.proofs.lemmas.definitions.PieceLemmas.{only_pieces}
-use Rattle.bt_tool.specs.model.Report.{order_in_use, Inputs, or_empty, chromosomes_of}
+use Rattle.bt_tool.specs.model.Report.{Inputs, chromosomes_of}
+use Rattle.bt_tool.specs.model.Behaviour.{order_in_use, or_empty}
 use Rattle.bt_tool.specs.declared.planning.plan_type.Command.TheVariants.{Complement, Intersect, Subtract}
 use Rattle.bt_laws.specs.WholeRuns.{first_records, second_records, RunWrites, of_second, with_second_input}
 use Rattle.bt_laws.specs.Same.{LieWithinLengths, subtract_by_complement}

@@ -9,7 +9,8 @@ use Rattle.bt_bed.specs.model.Levels.{HasValue, Level}
 use Rattle.bt_laws.specs.Runs.{interval_at}
 use Rattle.bt_runs.specs.model.Depth.{DepthInterval, counted_on, coverage, depth_lines, depth_of, depth_on, depths_on, levels_of, depth_at}
 use Rattle.bt_laws.proofs.lemmas.single.LevelLemmas.{gaps_depth_0, are_levels, only_levels, some_value, value_some, some_disjoint}
-use Rattle.bt_tool.specs.model.Report.{entries_in, order_in_use, report_of}
+use Rattle.bt_tool.specs.model.Report.{report_of}
+use Rattle.bt_tool.specs.model.Behaviour.{entries_in, order_in_use}
 use Rattle.bt_tool.specs.model.Written.{complement_written, coverage_written, merge_written}
 use Rattle.bt_tool.specs.declared.planning.plan_type.Command.TheVariants.{Complement, Coverage, Merge}
 use Rattle.bt_laws.specs.WholeRuns.{first_records}

@@ -7,7 +7,7 @@ use Rattle.bt_lines.specs.calls.Line.{line_feeds}
 use Rattle.bt_lines.specs.calls.Output.{Output, block_size}
 use Rattle.bt_lines.specs.declared.fault.Input.TheVariants.{First}
 use Rattle.bt_bed.specs.model.Genome.{Entry}
-use Rattle.bt_tool.specs.model.Report.{Behaviour, behaviour_of}
+use Rattle.bt_tool.specs.model.Behaviour.{Behaviour, behaviour_of}
 use Rattle.bt_tool.specs.calls.Inputs.{HandsUpTo, Holds, OfBoth}
 use Rattle.bt_tool.proofs.lemmas.running.members.CursorLemmas.{IsWhole}
 use Rattle.bt_bed.specs.model.Meeting.{Report}

@@ -13,7 +13,7 @@ use Rattle.bt_lines.specs.calls.Reader.{input_of, lines_given, source_of}
 use Rattle.bt_lines.specs.declared.fault.Input.TheVariants.{First, Second}
 use Rattle.bt_bed.specs.calls.Reading.{IsBeyond, MemberReader, good_coming}
 use Rattle.bt_bed.proofs.lemmas.Definitions.{all_stop, met_fault_stop, met_output, written_past, written_stop}
-use Rattle.bt_tool.specs.model.Report.{Behaviour, or_empty}
+use Rattle.bt_tool.specs.model.Behaviour.{Behaviour, or_empty}
 use Rattle.bt_tool.specs.calls.Inputs.{HandsUpTo, Holds, OfBoth, Reads, ReadsIf}
 use Rattle.bt_tool.specs.calls.Run.{WritesBy, IsFaultButWrite, IsReported, IsWithin, ReadsNoFurther, TellsDevice, TellsInput}
 use Rattle.bt_tool.proofs.lemmas.running.members.CursorLemmas.{Came, BeginsAt, at_whole, came_cut, came_whole, is_known, says_fault}

@@ -24,13 +24,15 @@ use Rattle.bt_lines.specs.model.Lines.{Handed, TextLine, text_lines, whole_text}
 use Rattle.bt_lines.specs.calls.Line.{line_feeds}
 use Rattle.bt_bed.proofs.lemmas.read.good.KnownLemmas.{at_end, lines_before_known}
 use Rattle.bt_bed.specs.calls.GenomeTable.{entries, EntryIsWrong, EntryUnread, ReadsAll, ReadingStops, StopCause, is_genome_kind}
-use Rattle.bt_tool.specs.model.Report.{behaviour_of, chromosomes_of, of_file}
+use Rattle.bt_tool.specs.model.Report.{chromosomes_of, of_file}
+use Rattle.bt_tool.specs.model.Behaviour.{behaviour_of}
 use Rattle.bt_tool.specs.calls.Inputs.{Holds, OfBoth, Reads, ReadsIf}
 use Rattle.bt_tool.specs.calls.Run.{IsOfInput, TellsInputIf, RunsAlone, RunsBy, AnswersNoRead, IsOwnFailure, ReadsServe, TellsNoRead, TellsOwnReads, KnowsChromosomes, LacksChromosomes}
 use Rattle.bt_tool.proofs.lemmas.running.feed.WritingLemmas.{behaves_alone}
 use Rattle.bt_tool.specs.inside.Feed.{FeedStopCause, HasFaultBehind, FeedsUpTo, Flushes, IsKeptBelow}
 use Rattle.bt_tool.specs.inside.Pair.{InputsEnd, JoinDef, Pair, PairEnds, Why}
-use Rattle.bt_tool.specs.model.Written.{IsOneOf, IsSweptKind}
+use Rattle.bt_tool.specs.model.Written.{IsOneOf}
+use Rattle.bt_tool.specs.model.TwoInputs.{IsSweptKind}
 use Rattle.bt_tool.specs.declared.planning.plan_type.Command.{Command}
 use Rattle.bt_tool.proofs.lemmas.running.members.CursorLemmas.{BeginsAt, some_of, cut_text, handed_all, handed_part}
 use Rattle.bt_lines.proofs.lemmas.reader.lines.LeftLemmas.{all_left}
