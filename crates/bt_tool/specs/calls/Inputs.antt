@@ -1,7 +1,6 @@
--- What the inputs of a run hand over and hold.
-use Rattle.std.specs.Prelude.{◌≡◌, ℕ, ◌-◌, ◌^◌, ◌≤◌, Bool, true, false, ⊤, List, length, nat_le, take, Option, Some, None}
-use Rattle.std.specs.Io.KnownBytes.{Consumes}
-use Rattle.bt_lines.specs.declared.device.Source.{Ghosts as Source}
+-- What a run read of its inputs, and what their texts may be.
+use Rattle.std.specs.Prelude.{◌≡◌, ℕ, ◌-◌, ◌^◌, ◌≤◌, Bool, true, false, ⊤, List, [], ◌++◌, length, nat_le, take, Option, Some, None}
+use Rattle.bt_lines.specs.calls.Device.{EndsAfter, FailsAfter, ReadsOn}
 use Rattle.bt_lines.specs.model.Lines.{Handed, whole_text}
 
 -- this holds of two, both of which may be missing
@@ -10,16 +9,53 @@ OfBoth P None None = ⊤
 OfBoth P (Some one) (Some other) = P one other
 OfBoth P _ _ = ⊥
 
--- a source handed over at most this many bytes
-pub record HandsUpTo {S : Type 0} (left : S → Option (List ℕ)) (most : ℕ)
-    (before after : S) : Type 0 where
-  pub handed : List ℕ
-  pub consumed : Consumes (left before) (left after) handed
-  pub read : length handed ≤ most
-
 -- an input that may be missing hasn't failed since
 abbrev pub ServesIf : {S : Type 0} → (S → Bool) → Option S → Option S → Type 0
 ServesIf failed = OfBoth (λ before after. failed after ≡ failed before)
+
+-- What was read of an input.
+
+-- the bytes that the reads of a run handed over, and whether its last read reported the end, or failed
+pub record InputRead : Type 0 where
+  pub bytes : List ℕ
+  pub told : Bool
+  pub failed : Bool
+
+-- the reads that go so, by whether the last one reported the end, or failed
+abbrev pub ReadsAs : Bool → Bool → {S : Type 0} → (S → Option (List ℕ) → S → Type 0) → S → List ℕ → S → Type 0
+ReadsAs false false IsRead before bytes after = ReadsOn IsRead before bytes after
+ReadsAs true false IsRead before bytes after = EndsAfter IsRead before bytes after
+ReadsAs false true IsRead before bytes after = FailsAfter IsRead before bytes after
+ReadsAs true true IsRead before bytes after = ⊥
+
+-- the reads that took a source from the one to the other went so
+abbrev pub ReadsSo : {S : Type 0} → (S → Option (List ℕ) → S → Type 0) → S → InputRead → S → Type 0
+ReadsSo IsRead before read after = ReadsAs read.told read.failed IsRead before read.bytes after
+
+-- of an input that may not be there: if it is, its reads went so
+abbrev pub ReadsSoIf : {S : Type 0} → (S → Option (List ℕ) → S → Type 0) → Option S → Option InputRead → Option S
+    → Type 0
+ReadsSoIf IsRead None None None = ⊤
+ReadsSoIf IsRead (Some before) (Some read) (Some after) = ReadsSo IsRead before read after
+ReadsSoIf IsRead _ _ _ = ⊥
+
+-- at most this many bytes were handed over, if the input is there
+abbrev pub HandsUpTo : ℕ → Option InputRead → Type 0
+HandsUpTo most None = ⊤
+HandsUpTo most (Some read) = length read.bytes ≤ most
+
+-- What its text may be: the bytes that were handed over, and any others after them, but none once the end was
+-- reported.
+
+-- these may be the bytes that weren't handed over
+abbrev pub MayFollow : InputRead → List ℕ → Type 0
+MayFollow read rest = read.told ≡ true → rest ≡ []
+
+-- this may be the whole text, what was never handed over included
+pub record MayHold (read : InputRead) (handed : Handed) : Type 0 where
+  pub rest : List ℕ
+  pub follows : MayFollow read rest
+  pub is : handed ≡ whole_text (read.bytes ++ rest)
 
 -- what came of a text, of which these bytes were handed over: all of it, or if a read failed or
 -- 2^63 bytes came, what came before that
@@ -27,24 +63,8 @@ abbrev pub handed_by : Bool → Bool → List ℕ → List ℕ → Handed
 handed_by false false text bytes = whole_text text
 handed_by _ _ text bytes = record { text = take (2 ^ 63 - 1) bytes; is_cut = true }
 
-module _ {S : Type 0} (device : Source S) where
-  -- the source told its bytes and worked before the run, and in it this came of its text
-  pub record Reads (before after : S) (handed : Handed) : Type 0 where
-    pub text : List ℕ
-    pub known : device.left before ≡ Some text
-    pub worked : device.has_failed before ≡ false
-    pub bytes : List ℕ
-    pub consumed : Consumes (device.left before) (device.left after) bytes
-    pub is : handed ≡ handed_by (device.has_failed after) (nat_le (2 ^ 63) (length bytes)) text bytes
-
-  -- of an input that may not be there: if it is, `Reads` holds, and else nothing was handed over
-  abbrev pub ReadsIf : Option S → Option S → Option Handed → Type 0
-  ReadsIf None None None = ⊤
-  ReadsIf (Some before) (Some after) (Some handed) = Reads before after handed
-  ReadsIf _ _ _ = ⊥
-
--- this is the whole text of a source, what it never hands over included
-pub record Holds {S : Type 0} (left : S → Option (List ℕ)) (source : S) (handed : Handed) : Type 0 where
-  pub text : List ℕ
-  pub known : left source ≡ Some text
-  pub is : handed ≡ whole_text text
+-- this may have come of the text: all of it, or if a read failed or 2^63 bytes came, what came before that
+pub record CameOf (read : InputRead) (handed : Handed) : Type 0 where
+  pub rest : List ℕ
+  pub follows : MayFollow read rest
+  pub is : handed ≡ handed_by read.failed (nat_le (2 ^ 63) (length read.bytes)) (read.bytes ++ rest) read.bytes

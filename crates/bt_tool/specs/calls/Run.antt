@@ -1,6 +1,5 @@
 -- What a run does, as contracts say it.
 use Rattle.std.specs.Prelude.{◌≡◌, ◌≢◌, ℕ, ◌+◌, ◌-◌, ◌^◌, ◌≤◌, ◌⊎◌, Bool, true, List, ◌++◌, length, false, take, Option, Some, None, IfSome, Ok, Err, Result, is_some, option_map, ⊤, []}
-use Rattle.std.specs.Io.KnownBytes.{Consumes}
 use Rattle.bt_lines.specs.declared.device.Source.{Ghosts as Source}
 use Rattle.bt_lines.specs.model.Fault.{FaultValue, read_failed}
 use Rattle.bt_lines.specs.calls.Faults.{no_memory, write_failed}
@@ -19,7 +18,7 @@ use Rattle.bt_bed.specs.calls.Orders.{AreDistinct}
 use Rattle.bt_bed.specs.declared.order.genome.Genome.{Genome as GenomeTable}
 use Rattle.bt_tool.specs.model.Report.{chromosomes_of, Inputs, behaviour_on, report_of, report, seen_of, texts_of}
 use Rattle.bt_tool.specs.model.Behaviour.{Behaviour, behaviour_of}
-use Rattle.bt_tool.specs.calls.Inputs.{Holds, OfBoth, ReadsIf, ServesIf, HandsUpTo, Reads}
+use Rattle.bt_tool.specs.calls.Inputs.{CameOf, HandsUpTo, InputRead, MayHold, OfBoth, ReadsSo, ReadsSoIf, ServesIf}
 use Rattle.bt_lines.specs.calls.Device.{FailsAfter, ReadsOn}
 use Rattle.bt_lines.specs.declared.device.Sink.{Ghosts as Sink}
 use Rattle.bt_lines.specs.declared.fault.Place.{Place}
@@ -29,10 +28,6 @@ use Rattle.bt_tool.specs.model.Options.{PlanSeen, options}
 use Rattle.bt_tool.specs.model.Table.{Word}
 
 -- What a run tells: the fault, and how far it read and wrote.
-
--- the source handed over more bytes than a text may have
-abbrev pub PassesBound : Option (List ℕ) → Option (List ℕ) → Type 0
-PassesBound old new = (bytes : List ℕ) × Consumes old new bytes × (2 ^ 63 ≤ length bytes)
 
 -- a fault, if there is one, is what a line says: it tells no device's failure and no refused growth
 pub record IsOfInput (fault : Option FaultValue) : Type 0 where
@@ -47,25 +42,24 @@ pub record TellsLine (Kinds : Kind → Type 0) (input : Input) (fault : FaultVal
   pub of_kind : Kinds kind
   pub is : fault ≡ fault_at_line input line kind
 
--- a failed read, reported only if the source has failed or handed over too many bytes (of unknown
--- bytes that can't be said)
+-- a failed read, reported only if the source has failed, or handed over more bytes than a text may have
 pub record TellsRead {S : Type 0} (device : Source S) (input : Input)
-    (before after : S) (fault : FaultValue) : Type 0 where
+    (read : InputRead) (after : S) (fault : FaultValue) : Type 0 where
   pub line : ℕ
   pub is : fault ≡ read_failed input line
-  pub cause : (device.has_failed after ≡ true) ⊎ PassesBound (device.left before) (device.left after)
+  pub cause : (device.has_failed after ≡ true) ⊎ (2 ^ 63 ≤ length read.bytes)
 
 -- a fault of an input: of a line, or of reading it
 abbrev pub TellsInput : {S : Type 0} → Source S → (Kind → Type 0) → Input
-    → S → S → FaultValue → Type 0
-TellsInput device Kinds input before after fault =
-    TellsLine Kinds input fault ⊎ TellsRead device input before after fault
+    → InputRead → S → FaultValue → Type 0
+TellsInput device Kinds input read after fault =
+    TellsLine Kinds input fault ⊎ TellsRead device input read after fault
 
 -- a fault of an input that may not be there: of a line, or of reading it
 abbrev pub TellsInputIf : {S : Type 0} → Source S → (Kind → Type 0)
-    → Input → Option S → Option S → FaultValue → Type 0
-TellsInputIf device Kinds input (Some before) (Some after) fault =
-    TellsInput device Kinds input before after fault
+    → Input → Option InputRead → Option S → FaultValue → Type 0
+TellsInputIf device Kinds input (Some read) (Some after) fault =
+    TellsInput device Kinds input read after fault
 TellsInputIf device Kinds input _ _ fault = ⊥
 
 -- a fault of the output, reported only if the sink failed and its last call is one that did, or of memory
@@ -85,25 +79,22 @@ IsFaultButWrite fault = (fault ≢ None) × (fault ≢ Some write_failed)
 abbrev pub IsWithin : Bool → List ℕ → ℕ → Type 0
 IsWithin told text n = (told ≡ false) ⊎ (n ≤ length (text_lines text))
 
--- How far an input was read by the time that this was written. For some n, at least 1, it handed over
+-- How far an input was read by the time that this was written, for an n that is at least 1: it handed over
 -- at most its first n lines and a block, and what its first n - 1 lines settle was taken, except at
 -- most a block. None of these is at fault: so if a line is, n is at most its number. Unless a write failed, all
--- of it was put, and nothing more if a fault stopped the run. `Beside` says of that n how far another input was read.
-pub record ReadsNoFurther (Beside : ℕ → Type 0) (faults : List TextLine → Option FaultValue)
-    (settles : List TextLine → List ℕ) (text : List ℕ) (left : Option (List ℕ)) (before : List ℕ)
+-- of it was put, and nothing more if a fault stopped the run. `Beside` says how far another input was read.
+pub record ReadsNoFurther (n : ℕ) (Beside : Type 0) (faults : List TextLine → Option FaultValue)
+    (settles : List TextLine → List ℕ) (text handed before : List ℕ)
     (took : Option (List ℕ)) (WriteFailed Stopped : Type 0) (put : Option (List ℕ)) : Type 0 where
-  pub n : ℕ
   pub some : 1 ≤ n
   pub faultless : faults (take (n - 1) (text_lines text)) ≡ None
-  pub handed : List ℕ
-  pub consumed : Consumes (Some text) left handed
   pub read : length handed ≤ bytes_in (take n (text_lines text)) + block_size
   pub settled : IfSome took (λ taken.
       length (before ++ settles (take (n - 1) (text_lines text))) ≤ length taken + block_size)
   pub kept : WriteFailed
       ⊎ IsPutTo (length (before ++ settles (take (n - 1) (text_lines text)))) put
   pub exact : Stopped → put ≡ Some (before ++ settles (take (n - 1) (text_lines text)))
-  pub beside : Beside n
+  pub beside : Beside
 
 -- the report is what came: its fault, and its output after what was put before
 abbrev pub IsReported : Report → List ℕ → Option FaultValue → Output → Type 0
@@ -113,11 +104,13 @@ IsReported report before fault grown =
 -- What reading the genome file of a run does, if it has one.
 
 module _ {G : Type 0} (device : Source G) where
-  -- the chromosomes were read
-  pub record KnowsChromosomes (before after : Option G) (table : Option GenomeTable) : Type 0 where
-    pub whole : (handed : Option Handed) → ReadsIf device before after handed
+  -- the chromosomes were read, of the bytes that were handed over
+  pub record KnowsChromosomes (before : Option G) (read : Option InputRead) (after : Option G)
+      (table : Option GenomeTable) : Type 0 where
+    pub reads : ReadsSoIf device.is_read before read after
+    pub whole : (handed : Option Handed) → OfBoth CameOf read handed
         → chromosomes_of handed ≡ Ok (option_map entries table)
-    pub told : (handed : Option Handed) → OfBoth (Holds device.left) before handed
+    pub told : (handed : Option Handed) → OfBoth MayHold read handed
         → chromosomes_of handed ≡ Ok (option_map entries table)
     -- there are some exactly if there is a file
     pub named : is_some table ≡ is_some before
@@ -127,18 +120,21 @@ module _ {G : Type 0} (device : Source G) where
     pub ended : OfBoth (λ before after. device.end_told after ≡ true) before after
 
   -- the genome file is at fault, or couldn't be read
-  pub record LacksChromosomes (before after : Option G) (fault : FaultValue) : Type 0 where
-    pub whole : (handed : Option Handed) → ReadsIf device before after handed → fault ≢ no_memory
+  pub record LacksChromosomes (before : Option G) (read : Option InputRead) (after : Option G)
+      (fault : FaultValue) : Type 0 where
+    pub reads : ReadsSoIf device.is_read before read after
+    pub whole : (handed : Option Handed) → OfBoth CameOf read handed → fault ≢ no_memory
         → chromosomes_of handed ≡ Err fault
-    pub told : (handed : Option Handed) → OfBoth (Holds device.left) before handed → IsOfInput (Some fault)
+    pub told : (handed : Option Handed) → OfBoth MayHold read handed → IsOfInput (Some fault)
         → chromosomes_of handed ≡ Err fault
-    pub named : TellsInputIf device (IsOneOf is_genome_kind) FromGenome before after fault
+    pub named : TellsInputIf device (IsOneOf is_genome_kind) FromGenome read after fault
         ⊎ (fault ≡ no_memory)
     pub no_write : fault ≢ write_failed
 
   abbrev pub ReadsChromosomes : Option G → Result (Option GenomeTable) Fault → Option G → Type 0
-  ReadsChromosomes before (Ok table) after = KnowsChromosomes before after table
-  ReadsChromosomes before (Err fault) after = LacksChromosomes before after (fault_value fault)
+  ReadsChromosomes before (Ok table) after = (read : Option InputRead) × KnowsChromosomes before read after table
+  ReadsChromosomes before (Err fault) after =
+      (read : Option InputRead) × LacksChromosomes before read after (fault_value fault)
 
 -- A failed read is reported only if a read of the run failed, whatever its source did before.
 
@@ -181,46 +177,45 @@ module _ {A B : Type 0} (source_a : Source A) (source_b : Source B) (behaviour :
   -- the report on what they hand over
   pub record WritesBy (first : A) (second : Option B) (out : Output) (fault : Option FaultValue)
       (first_after : A) (second_after : Option B) (grown : Output) : Type 0 where
+    pub one : InputRead
+    pub one_reads : ReadsSo source_a.is_read first one first_after
+    pub two : Option InputRead
+    pub two_reads : ReadsSoIf source_b.is_read second two second_after
     -- no write and no growth failed: the report on what was handed over, also if a read failed
-    pub whole : (one : Handed) (two : Option Handed) (before : List ℕ)
-        → Reads source_a first first_after one
-        → ReadsIf source_b second second_after two → out.put ≡ Some before
+    pub whole : (handed : Handed) (others : Option Handed) (before : List ℕ) → CameOf one handed
+        → OfBoth CameOf two others → out.put ≡ Some before
         → fault ≢ Some write_failed → fault ≢ Some no_memory
-        → IsReported (behaviour.report one two) before fault grown
+        → IsReported (behaviour.report handed others) before fault grown
     -- no device's fault is reported: the report on the whole texts
-    pub told : (one : Handed) (two : Option Handed) (before : List ℕ) → Holds source_a.left first one
-        → OfBoth (Holds source_b.left) second two
-        → out.put ≡ Some before → IsOfInput fault → IsReported (behaviour.report one two) before fault grown
+    pub told : (handed : Handed) (others : Option Handed) (before : List ℕ) → MayHold one handed
+        → OfBoth MayHold two others
+        → out.put ≡ Some before → IsOfInput fault → IsReported (behaviour.report handed others) before fault grown
     -- if a write failed: the sink took a prefix of the report's output
-    pub cut : fault ≡ Some write_failed → (one : Handed) (two : Option Handed) (before : List ℕ)
-        → Holds source_a.left first one
-        → OfBoth (Holds source_b.left) second two → out.put ≡ Some before → (front : List ℕ) × (rest : List ℕ)
-        × ((behaviour.report one two).output ≡ front ++ rest)
+    pub cut : fault ≡ Some write_failed → (handed : Handed) (others : Option Handed) (before : List ℕ)
+        → MayHold one handed → OfBoth MayHold two others → out.put ≡ Some before → (front : List ℕ) × (rest : List ℕ)
+        × ((behaviour.report handed others).output ≡ front ++ rest)
         × IsPrefixOf grown.took (Some (before ++ front)) []
     -- whatever else fails: a prefix of the report's output was put
-    pub kept : fault ≢ Some write_failed → (one : Handed) (two : Option Handed) (before : List ℕ)
-        → Holds source_a.left first one
-        → OfBoth (Holds source_b.left) second two → out.put ≡ Some before → (front : List ℕ) × (rest : List ℕ)
-        × ((behaviour.report one two).output ≡ front ++ rest) × (grown.put ≡ Some (before ++ front))
+    pub kept : fault ≢ Some write_failed → (handed : Handed) (others : Option Handed) (before : List ℕ)
+        → MayHold one handed → OfBoth MayHold two others → out.put ≡ Some before → (front : List ℕ) × (rest : List ℕ)
+        × ((behaviour.report handed others).output ≡ front ++ rest) × (grown.put ≡ Some (before ++ front))
     pub grows : Grows out.took grown.took
-    -- without a fault no device failed, known or not
+    -- without a fault no device failed
     pub served : fault ≡ None
         → ((source_a.has_failed first_after ≡ source_a.has_failed first)
         × ServesIf source_b.has_failed second second_after)
         × (grown.sink_has_failed ≡ out.sink_has_failed)
-    -- how far the inputs were read, whatever happened
-    pub near : (one : Handed) (two : Option Handed) (before taken : List ℕ) → Holds source_a.left first one
-        → OfBoth (Holds source_b.left) second two
-        → out.put ≡ Some before → out.took ≡ Some taken
-        → ReadsNoFurther (λ n. IsWithin (source_a.end_told first_after) one.text n
-        → OfBoth (HandsUpTo source_b.left (behaviour.reaches two (take n (text_lines one.text)) + block_size))
-        second second_after)
-        behaviour.faults (behaviour.settles two) one.text (source_a.left first_after) before grown.took
-        (grown.has_failed ≡ true) (IsFaultButWrite fault) grown.put
-    -- what the fault may be, whatever the devices do
+    -- how far the inputs were read, whatever happened, and whatever follows
+    pub near : (n : ℕ) × ((handed : Handed) (others : Option Handed) (before taken : List ℕ) → MayHold one handed
+        → OfBoth MayHold two others → out.put ≡ Some before → out.took ≡ Some taken
+        → ReadsNoFurther n (IsWithin one.told handed.text n
+        → HandsUpTo (behaviour.reaches others (take n (text_lines handed.text)) + block_size) two)
+        behaviour.faults (behaviour.settles others) handed.text one.bytes before grown.took
+        (grown.has_failed ≡ true) (IsFaultButWrite fault) grown.put)
+    -- what the fault may be
     pub named : (told : FaultValue) → fault ≡ Some told
-        → (TellsInput source_a behaviour.FirstKinds First first first_after told
-        ⊎ TellsInputIf source_b behaviour.SecondKinds Second second second_after told)
+        → (TellsInput source_a behaviour.FirstKinds First one first_after told
+        ⊎ TellsInputIf source_b behaviour.SecondKinds Second two second_after told)
         ⊎ TellsDevice grown.sink_has_failed grown.sink_last_failed told
 
   -- a run writes so, and its reads went so
@@ -242,111 +237,124 @@ RunsAlone device behaviour first out fault new grown =
 
 -- What a run gives, by what its inputs hand over.
 
+-- what was read of the inputs
+pub record InputsRead : Type 0 where
+  pub genome : Option InputRead
+  pub first : InputRead
+  pub second : Option InputRead
+
+-- this may have come of the inputs
+pub record InputsCame (read : InputsRead) (inputs : Inputs) : Type 0 where
+  pub genome_file : OfBoth CameOf read.genome inputs.genome
+  pub first_input : CameOf read.first inputs.first
+  pub second_input : OfBoth CameOf read.second inputs.second
+
+-- these may be the whole texts of the inputs, what was never handed over included
+pub record InputsMayHold (read : InputsRead) (inputs : Inputs) : Type 0 where
+  pub genome_file : OfBoth MayHold read.genome inputs.genome
+  pub first_input : MayHold read.first inputs.first
+  pub second_input : OfBoth MayHold read.second inputs.second
+
 module _ {G A B K : Type 0} (source_g : Source G) (source_a : Source A) (source_b : Source B)
     (sink : Sink K) where
-  -- this came of the inputs, all of which worked before the run
-  pub record ReadsInputs (genome : Option G) (first : A) (second : Option B)
-      (genome_after : Option G) (first_after : A) (second_after : Option B)
-      (inputs : Inputs) : Type 0 where
-    pub genome_file : ReadsIf source_g genome genome_after inputs.genome
-    pub first_input : Reads source_a first first_after inputs.first
-    pub second_input : ReadsIf source_b second second_after inputs.second
-
-  -- these are the whole texts of the inputs, what they never hand over included
-  pub record HoldInputs (genome : Option G) (first : A) (second : Option B)
-      (inputs : Inputs) : Type 0 where
-    pub genome_file : OfBoth (Holds source_g.left) genome inputs.genome
-    pub first_input : Holds source_a.left first inputs.first
-    pub second_input : OfBoth (Holds source_b.left) second inputs.second
+  -- the reads of the inputs went so
+  pub record ReadsInputs (genome : Option G) (first : A) (second : Option B) (read : InputsRead)
+      (genome_after : Option G) (first_after : A) (second_after : Option B) : Type 0 where
+    pub genome_file : ReadsSoIf source_g.is_read genome read.genome genome_after
+    pub first_input : ReadsSo source_a.is_read first read.first first_after
+    pub second_input : ReadsSoIf source_b.is_read second read.second second_after
 
   -- A fault of an input other than the genome file, of a kind that a line of it can have. With a
-  -- genome file that is by the list of its chromosomes (if its text is unknown, by some list), and without one
+  -- genome file that is by the list of its chromosomes, and without one
   -- in the order of the names' bytes, if no chromosome is unknown.
-  pub record TellsOther (command : Command) (genome : Option G) (first first_after : A)
-      (second second_after : Option B) (told : FaultValue) : Type 0 where
+  pub record TellsOther (command : Command) (genome : Option G) (read : InputsRead) (first_after : A)
+      (second_after : Option B) (told : FaultValue) : Type 0 where
     pub chromosomes : Option (List Entry)
     pub named : is_some chromosomes ≡ is_some genome
-    pub of_file : (file : Option Handed) → OfBoth (Holds source_g.left) genome file → chromosomes_of file ≡ Ok chromosomes
+    pub of_file : (file : Option Handed) → OfBoth MayHold read.genome file → chromosomes_of file ≡ Ok chromosomes
     pub tells : TellsInput source_a (behaviour_of command chromosomes).FirstKinds First
-        first first_after told
+        read.first first_after told
         ⊎ TellsInputIf source_b (behaviour_of command chromosomes).SecondKinds Second
-        second second_after told
+        read.second second_after told
 
-  -- a run of a command
+  -- A run of a command. All that is said of its inputs is said of the bytes that its reads handed over, whatever
+  -- follows them.
   pub record Runs (command : Command) (genome : Option G) (first : A) (second : Option B) (out : K)
       (fault : Option FaultValue) (genome_after : Option G) (first_after : A) (second_after : Option B)
       (out_after : K) : Type 0 where
-    -- If the devices tell their bytes, the sink works and no growth is refused, the fault reported
+    pub read : InputsRead
+    pub reads : ReadsInputs genome first second read genome_after first_after second_after
+    -- If the sink works and no growth is refused, the fault reported
     -- and the bytes written are those of the report on what the inputs handed over. That is so also if a
     -- read failed or an input passes 2^63 - 1 bytes.
-    pub whole : (inputs : Inputs) (before : List ℕ)
-        → ReadsInputs genome first second genome_after first_after second_after inputs
+    pub whole : (inputs : Inputs) (before : List ℕ) → InputsCame read inputs
         → sink.took out ≡ Some before → sink.has_failed out_after ≡ false → fault ≢ Some no_memory
         → (fault ≡ (report_of command inputs).fault)
         × (sink.took out_after ≡ Some (before ++ (report_of command inputs).output))
-    -- The devices tell their bytes, whether they fail or not. If the run ends without a
+    -- Whether devices fail or not: if the run ends without a
     -- fault, or tells a line's, that fault and the bytes written are
     -- those of the report on the whole texts.
-    pub told : (inputs : Inputs) (before : List ℕ) → HoldInputs genome first second inputs
+    pub told : (inputs : Inputs) (before : List ℕ) → InputsMayHold read inputs
         → sink.took out ≡ Some before → IsOfInput fault
         → (fault ≡ (report_of command inputs).fault)
         × (sink.took out_after ≡ Some (before ++ (report_of command inputs).output))
-    -- Whatever read, write or growth fails of such devices, what was written is a prefix of the
+    -- Whatever read, write or growth fails, what was written is a prefix of the
     -- report's output for the whole texts, what wasn't handed over of them included.
-    pub prefix : (inputs : Inputs) (before : List ℕ) → HoldInputs genome first second inputs
+    pub prefix : (inputs : Inputs) (before : List ℕ) → InputsMayHold read inputs
         → sink.took out ≡ Some before
         → (prefix : List ℕ) × (rest : List ℕ) × (sink.took out_after ≡ Some (before ++ prefix))
         × ((report_of command inputs).output ≡ prefix ++ rest)
-    -- However the run ends, if the devices tell their bytes, there is an n. The first input handed over at
+    -- However the run ends, there is an n, the same whatever follows. The first input handed over at
     -- most its first n lines and a block. What its first n - 1 lines settle was written, except at
     -- most a block if a write failed. At any other fault, running out of memory among them, what was
     -- written is exactly that. None of these n - 1 lines is at fault: so no line after one at fault was read,
     -- except for a block. If the first input's end wasn't reported, or it has an n-th line, the
     -- second handed over at most what those n lines need and a block. So if it handed over more, n is
     -- past the last line, no line of the first input is at fault, and all of them were settled.
-    pub near : (inputs : Inputs) (before : List ℕ) → HoldInputs genome first second inputs
+    pub near : (n : ℕ) × ((inputs : Inputs) (before : List ℕ) → InputsMayHold read inputs
         → sink.took out ≡ Some before
-        → ReadsNoFurther (λ n. IsWithin (source_a.end_told first_after) inputs.first.text n
-        → OfBoth (HandsUpTo source_b.left ((behaviour_on command (chromosomes_of inputs.genome)).reaches
-        inputs.second (take n (text_lines inputs.first.text)) + block_size)) second second_after)
+        → ReadsNoFurther n (IsWithin read.first.told inputs.first.text n
+        → HandsUpTo ((behaviour_on command (chromosomes_of inputs.genome)).reaches
+        inputs.second (take n (text_lines inputs.first.text)) + block_size) read.second)
         (behaviour_on command (chromosomes_of inputs.genome)).faults
         ((behaviour_on command (chromosomes_of inputs.genome)).settles inputs.second) inputs.first.text
-        (source_a.left first_after) before (sink.took out_after) (fault ≡ Some write_failed)
-        (IsFaultButWrite fault) (sink.took out_after)
-    -- Whatever the devices do, known or not: a run that ends without a fault has met no failure of
+        read.first.bytes before (sink.took out_after) (fault ≡ Some write_failed)
+        (IsFaultButWrite fault) (sink.took out_after))
+    -- A run that ends without a fault has met no failure of
     -- a device that it used. So a failed read or write never ends with status 0.
     pub served : fault ≡ None
         → (ServesIf source_g.has_failed genome genome_after
         × ServesIf source_b.has_failed second second_after)
         × ((source_a.has_failed first_after ≡ source_a.has_failed first)
         × (sink.has_failed out_after ≡ sink.has_failed out))
-    -- If the genome file's text is at fault no other input was touched, whatever else failed.
-    pub after_genome : (file : Option Handed) → OfBoth (Holds source_g.left) genome file → (wrong : FaultValue)
+    -- If the genome file's text is at fault, whatever follows what was read of it, no other input was touched,
+    -- whatever else failed.
+    pub after_genome : (file : Option Handed) → OfBoth MayHold read.genome file → (wrong : FaultValue)
         → chromosomes_of file ≡ Err wrong
         → (first_after ≡ first) × (second_after ≡ second)
-    -- Nor was it after a fault that is reported of the genome file, whatever the devices do.
+    -- Nor was it after a fault that is reported of the genome file.
     pub untouched : (told : FaultValue) → fault ≡ Some told
         → (place : Place) → told.place ≡ Some place → place.input ≡ Genome
         → (first_after ≡ first) × (second_after ≡ second)
     -- Nor was it, whatever ended the run, unless the genome file was read up to its end without a fault. So
     -- it wasn't if memory ran out before that end.
     pub begun : ((first_after ≡ first) × (second_after ≡ second))
-        ⊎ ((table : Option GenomeTable) × KnowsChromosomes source_g genome genome_after table)
-    -- What the fault may be, whatever the devices do. It is one that a line of an input can have (without
+        ⊎ ((table : Option GenomeTable) × KnowsChromosomes source_g genome read.genome genome_after table)
+    -- What the fault may be. It is one that a line of an input can have (without
     -- a genome file none of it, and no unknown chromosome). Or it is a failed read, only if its source
-    -- failed or may have passed the bound; a failed write, only if the sink failed, and its last call is one
+    -- failed or passed the bound; a failed write, only if the sink failed, and its last call is one
     -- that failed: nothing was written after it, and nothing flushed; or running out of memory. That a failed read is of this run, whatever its source did before, `run` says beside
     -- this, by `TellsOwnReads`.
     pub named : (told : FaultValue) → fault ≡ Some told
-        → (TellsInputIf source_g (IsOneOf is_genome_kind) Genome genome genome_after told
-        ⊎ TellsOther command genome first first_after second second_after told)
+        → (TellsInputIf source_g (IsOneOf is_genome_kind) Genome read.genome genome_after told
+        ⊎ TellsOther command genome read first_after second_after told)
         ⊎ TellsDevice (sink.has_failed out_after) (sink.last_failed out_after) told
 
 -- What a user sees of a run, from the words of the command line and the texts of the inputs.
 
 module _ {G A B K : Type 0} (source_g : Source G) (source_a : Source A) (source_b : Source B)
     (sink : Sink K) where
-  -- If a plan was run, its inputs handed over these whole texts, the sink had taken nothing before and
+  -- If a plan was run, these whole texts came of its inputs, the sink had taken nothing before and
   -- took these bytes, and no growth was refused, then those bytes, the line that tells the fault and
   -- the exit status are those of the report on the words and the texts.
   abbrev pub ShowsReport : Type 0
@@ -355,11 +363,9 @@ module _ {G A B K : Type 0} (source_g : Source G) (source_a : Source A) (source_
       (out : K) (fault : Option FaultValue) (genome_after : Option G) (first_after : A)
       (second_after : Option B) (out_after : K)
       (genome_text first_text second_text bytes : List ℕ) → options words ≡ Ok plan
-      → Runs source_g source_a source_b sink
-      plan.command genome first second out fault genome_after first_after second_after out_after
-      → ReadsInputs source_g source_a source_b sink
-      genome first second genome_after first_after second_after
-      (texts_of plan genome_text first_text second_text)
+      → (runs : Runs source_g source_a source_b sink
+      plan.command genome first second out fault genome_after first_after second_after out_after)
+      → InputsCame runs.read (texts_of plan genome_text first_text second_text)
       → sink.took out ≡ Some [] → sink.has_failed out_after ≡ false → fault ≢ Some no_memory
       → sink.took out_after ≡ Some bytes
       → report words genome_text first_text second_text

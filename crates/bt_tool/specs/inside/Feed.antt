@@ -5,12 +5,12 @@ use Rattle.bt_lines.specs.model.Fault.{FaultValue, read_failed}
 use Rattle.bt_lines.specs.calls.Faults.{no_memory, write_failed}
 use Rattle.bt_lines.specs.model.Lines.{bytes_in, TextLine}
 use Rattle.bt_lines.specs.calls.Output.{block_size, Output, IsPrefixOf, Grows, HoldsBlock, WorksAsBefore, FailsToAdd, Grown, SinkFailed}
-use Rattle.bt_lines.specs.calls.Reader.{CutsOff, Hands, IsKept, source_of, input_of, bytes_taken, fault_kept as line_fault, lines_given, lines_left, IsSound, feeds_taken}
+use Rattle.bt_lines.specs.calls.Reader.{CutsOff, Hands, IsKept, source_of, input_of, bytes_taken, fault_kept as line_fault, lines_given, MayStillCome, lines_coming, IsSound, feeds_taken}
 use Rattle.bt_lines.specs.declared.fault.Input.{Input}
 use Rattle.bt_lines.specs.declared.fault.Kind.{Kind}
 use Rattle.bt_lines.specs.declared.reader.line_reader.LineReader.{LineReader}
 use Rattle.bt_bed.specs.model.Good.{Format, Good, Member}
-use Rattle.bt_bed.specs.calls.Reading.{IsBeyond, AreSaid, MemberReader, Takes, ahead_in, good_coming, state_behind}
+use Rattle.bt_bed.specs.calls.Reading.{IsBeyond, AreSaid, MemberReader, Takes, ahead_in, coming, state_behind, with_members}
 use Rattle.bt_bed.specs.model.Feature.{Feature, intervals_of}
 use Rattle.bt_bed.specs.calls.Orders.{AreNonEmpty, ArePlaced}
 use Rattle.bt_bed.specs.model.BedLine.{fault_at_line}
@@ -32,12 +32,6 @@ use Rattle.std.specs.Io.KnownBytes.{Keeps}
 
 -- What a reader of members has consumed, and why it stops.
 
--- these members came first of what was to come, and the others are still to come
-abbrev pub ComeFirst : {A : Type 0} → Option (Good A) → List (Member A) → Option (Good A) → Type 0
-ComeFirst None past now = ⊤
-ComeFirst (Some old) past None = ⊥
-ComeFirst (Some old) past (Some now) = (old.members ≡ past ++ now.members) × (old.fault ≡ now.fault)
-
 -- the items of members, without their lines
 abbrev pub member_items : {A : Type 0} → List (Member A) → List A
 member_items members = map (λ m. m.item) members
@@ -54,13 +48,37 @@ IsKeptBelow reader lines =
     (input : Input) (line : ℕ) → reader.fault ≡ Some (read_failed input line)
     → line_fault lines ≡ Some (read_failed input line)
 
-module _ {S A State : Type 0} (device : Source S) where
-  -- the member ahead is the first of those still to come
-  abbrev pub AheadComes : MemberReader S A State → Type 0
-  AheadComes reader = (m : Member A) → ahead_in reader ≡ Some m
-      → IfSome (good_coming device.left reader)
-      (λ good. (rest : List (Member A)) × (good.members ≡ m ∷ rest))
+-- whatever may follow once all of these bytes were handed over may follow, behind others, once the first were
+abbrev pub IsLater : {S : Type 0} → List ℕ → LineReader S → List ℕ → LineReader S → Type 0
+IsLater bytes now all new = (rest : List ℕ) → MayStillCome new rest
+    → (more : List ℕ) × MayStillCome now more × (all ++ rest ≡ bytes ++ more)
 
+module _ {S A State : Type 0} where
+  -- once these bytes were handed over, this is so of what is good, whatever follows
+  abbrev pub WhateverComes : MemberReader S A State → List ℕ → MemberReader S A State → (Good A → Type 0) → Type 0
+  WhateverComes old bytes now P = (rest : List ℕ) → MayStillCome now.below rest → P (coming (bytes ++ rest) old)
+
+  -- what follows the first `count` lines and one line more is still to come, whatever it is, except at most a block
+  abbrev pub IsNearTo : ℕ → MemberReader S A State → List ℕ → MemberReader S A State → Type 0
+  IsNearTo count old bytes now = (rest : List ℕ) → MayStillCome now.below rest
+      → bytes_in (drop (suc count) (lines_coming (bytes ++ rest) old.below)) ≤ length rest + block_size
+
+  -- these members come first, whatever follows
+  abbrev pub BeginsWith : MemberReader S A State → List ℕ → List (Member A) → MemberReader S A State → Type 0
+  BeginsWith old bytes past now =
+      WhateverComes old bytes now (λ good. (more : List (Member A)) × (good.members ≡ past ++ more))
+
+  -- these members come first, and what comes after them lies after the first `count` lines, whatever follows
+  abbrev pub BeginsBefore : ℕ → MemberReader S A State → List ℕ → List (Member A) → MemberReader S A State → Type 0
+  BeginsBefore count old bytes past now = WhateverComes old bytes now (λ good. (more : List (Member A))
+      × (good.members ≡ past ++ more) × IsBeyond count (record { members = more; fault = good.fault }))
+
+  -- the member ahead is the first of those still to come, whatever follows
+  abbrev pub AheadComes : MemberReader S A State → Type 0
+  AheadComes reader = (m : Member A) → ahead_in reader ≡ Some m → (rest : List ℕ) → MayStillCome reader.below rest
+      → (more : List (Member A)) × ((coming rest reader).members ≡ m ∷ more)
+
+module _ {S A State : Type 0} (device : Source S) where
   -- members that were buffered are taken
   pub record HasTaken (old : MemberReader S A State) (taken : List A)
       (new : MemberReader S A State) : Type 0 where
@@ -74,75 +92,68 @@ module _ {S A State : Type 0} (device : Source S) where
       pub bytes : (bytes : List ℕ) × Hands device old.below bytes now.below
       pub said : AreSaid old.format old.state (member_items past)
       pub state : now.state ≡ state_behind old.format old.state (member_items past)
-      pub come : ComeFirst (good_coming device.left old) past (good_coming device.left now)
+      -- they come first, and the others are still to come, whatever follows
+      pub come : (rest : List ℕ) → MayStillCome now.below rest
+          → coming (bytes.0 ++ rest) old ≡ with_members past (coming rest now)
       pub behind : All (λ m. m.line ≤ lines_given now.below) past
-      -- the lines left are those after the lines given
-      pub lines : IfSome (lines_left device.left old.below)
-          (λ lines. lines_left device.left now.below ≡ Some (drop (lines_given now.below) lines))
+      -- the lines that come are those after the lines given
+      pub lines : (rest : List ℕ) → MayStillCome now.below rest
+          → lines_coming rest now.below ≡ drop (lines_given now.below) (lines_coming (bytes.0 ++ rest) old.below)
       pub going : now.fault ≡ None
       pub clear : line_fault now.below ≡ None
       pub kept : IsKept device now.below
       pub served : device.has_failed (source_of now.below) ≡ device.has_failed (source_of old.below)
-      pub ahead : IsSome (good_coming device.left old) → AheadComes now
-      -- of known bytes, those after the lines given and one more line are left, except at most a block
-      pub near : IfSome (lines_left device.left old.below) (λ lines. IfSome (device.left (source_of now.below))
-          (λ rest. bytes_in (drop (suc (lines_given now.below)) lines) ≤ length rest + block_size))
+      pub ahead : AheadComes now
+      pub near : IsNearTo (lines_given now.below) old bytes.0 now
 
-    -- How far the input was read: the first `count` lines, one more and at most a block, and what is
-    -- good after these members comes after the first `count` lines.
-    pub record IsReadTo (past : List (Member A)) (now : MemberReader S A State) : Type 0 where
+    -- How far the input was read once these bytes were handed over: the first `count` lines, one more and at
+    -- most a block, and what is good after these members comes after the first `count` lines.
+    pub record IsReadTo (bytes : List ℕ) (past : List (Member A)) (now : MemberReader S A State) : Type 0 where
       pub count : ℕ
-      pub near : IfSome (lines_left device.left old.below) (λ lines. IfSome (device.left (source_of now.below))
-          (λ rest. bytes_in (drop (suc count) lines) ≤ length rest + block_size))
-      pub behind : IfSome (good_coming device.left old) (λ good. (rest : List (Member A))
-          × (good.members ≡ past ++ rest)
-          × IsBeyond count (record { members = rest; fault = good.fault }))
+      pub near : IsNearTo count old bytes now
+      pub behind : BeginsBefore count old bytes past now
 
     -- The members on the first `count` lines are `past`,
     -- and all that were given are on them and the next.
-    pub record IsReadFor (past given : List (Member A))
+    pub record IsReadFor (bytes : List ℕ) (past given : List (Member A))
         (now : MemberReader S A State) : Type 0 where
-      pub to : IsReadTo past now
+      pub to : IsReadTo bytes past now
       pub low : All (λ m. m.line ≤ to.count) past
       pub high : All (λ m. m.line ≤ suc to.count) given
-      pub begins : IfSome (good_coming device.left old)
-          (λ good. (rest : List (Member A)) × (good.members ≡ given ++ rest))
+      pub begins : BeginsWith old bytes given now
 
     -- they are all that is good of the input, which has no fault
-    abbrev pub AreAll : List (Member A) → Type 0
-    AreAll past =
-        IfSome (good_coming device.left old) (λ good. (good.members ≡ past) × (good.fault ≡ None))
+    abbrev pub AreAll : List ℕ → List (Member A) → MemberReader S A State → Type 0
+    AreAll bytes past now = WhateverComes old bytes now (λ good. (good.members ≡ past) × (good.fault ≡ None))
 
     -- a line after them is at fault
-    pub record IsWrongBehind (Kinds : Kind → Type 0) (past : List (Member A)) (fault : FaultValue)
+    pub record IsWrongBehind (Kinds : Kind → Type 0) (bytes : List ℕ) (past : List (Member A)) (fault : FaultValue)
         (new : MemberReader S A State) : Type 0 where
-      pub whole : IfSome (good_coming device.left old)
-          (λ good. (good.members ≡ past) × (good.fault ≡ Some fault))
+      pub whole : WhateverComes old bytes new (λ good. (good.members ≡ past) × (good.fault ≡ Some fault))
       pub line : ℕ
       pub kind : Kind
       pub is : fault ≡ fault_at_line (input_of old.below) line kind
       pub of_kind : Kinds kind
       pub served : device.has_failed (source_of new.below) ≡ device.has_failed (source_of old.below)
+      pub clear : line_fault new.below ≡ None
       pub within : bytes_taken new.below < 2 ^ 63
 
     -- the source failed, or its text is too long: after the lines that were given
-    pub record IsUnreadBehind (past : List (Member A)) (fault : FaultValue)
+    pub record IsUnreadBehind (bytes : List ℕ) (past : List (Member A)) (fault : FaultValue)
         (new : MemberReader S A State) : Type 0 where
       pub is : fault ≡ read_failed (input_of old.below) (suc (lines_given new.below))
       pub kept : new.fault ≡ Some fault
       pub cause : (device.has_failed (source_of new.below) ≡ true) ⊎ (2 ^ 63 ≤ bytes_taken new.below)
-      pub cut : (bytes : List ℕ) × Hands device old.below bytes new.below × CutsOff old.below bytes new.below
+      pub cut : CutsOff old.below bytes new.below
       -- the lines given have these members, and none of them is at fault
-      pub members : IfSome (good_coming device.left old) (λ good. (rest : List (Member A))
-          × (good.members ≡ past ++ rest)
-          × IsBeyond (lines_given new.below) (record { members = rest; fault = good.fault }))
+      pub members : BeginsBefore (lines_given new.below) old bytes past new
       pub behind : All (λ m. m.line ≤ lines_given new.below) past
 
     -- the fault of the input lies after these members
-    abbrev pub HasFaultBehind : (Kind → Type 0) → List (Member A) → FaultValue → MemberReader S A State
+    abbrev pub HasFaultBehind : (Kind → Type 0) → List ℕ → List (Member A) → FaultValue → MemberReader S A State
         → Type 0
-    HasFaultBehind Kinds past fault new =
-        IsWrongBehind Kinds past fault new ⊎ IsUnreadBehind past fault new
+    HasFaultBehind Kinds bytes past fault new =
+        IsWrongBehind Kinds bytes past fault new ⊎ IsUnreadBehind bytes past fault new
 
     -- memory ran out
     pub record LacksMemory (fault : FaultValue) (new : MemberReader S A State) : Type 0 where
@@ -153,7 +164,7 @@ module _ {S A State : Type 0} (device : Source S) where
     pub record StopsAfter (Kinds : Kind → Type 0) (past : List (Member A)) (fault : FaultValue)
         (new : MemberReader S A State) : Type 0 where
       pub bytes : (bytes : List ℕ) × Hands device old.below bytes new.below
-      pub cause : HasFaultBehind Kinds past fault new ⊎ LacksMemory fault new
+      pub cause : HasFaultBehind Kinds bytes.0 past fault new ⊎ LacksMemory fault new
 
 -- What feeding an engine with the members of a reader does to the devices.
 
@@ -206,7 +217,7 @@ module _ {S A State : Type 0} (settled : List A → List ℕ) (Kinds : Kind → 
     -- how far the input was read: what the members of the lines before settle was taken, except at most a
     -- block
     pub before : List (Member A)
-    pub read : IsReadFor device old before before new
+    pub read : IsReadFor device old bytes.0 before before new
     pub kept : TookButBlock out (settled (member_items before)) grown
 
   -- all members were taken, and the engine is after them
@@ -214,17 +225,18 @@ module _ {S A State : Type 0} (settled : List A → List ℕ) (Kinds : Kind → 
       (new : MemberReader S A State) (grown : Output) : Type 0 where
     pub past : List (Member A)
     pub took : Took old out past new grown
-    pub whole : AreAll device old past
+    pub whole : AreAll device old took.bytes.0 past new
     pub stands : Stands (member_items past)
     pub puts : PutsLines out (settled (member_items past)) grown
     pub works : WorksAsBefore out grown
     pub served : device.has_failed (source_of new.below) ≡ device.has_failed (source_of old.below)
+    pub clear : line_fault new.below ≡ None
     pub within : bytes_taken new.below < 2 ^ 63
 
   -- a line is at fault, or the source failed, or its text is too long; or memory ran out
-  pub record StopsTaking (old : MemberReader S A State) (out : Output) (past : List (Member A))
+  pub record StopsTaking (old : MemberReader S A State) (out : Output) (bytes : List ℕ) (past : List (Member A))
       (fault : FaultValue) (new : MemberReader S A State) (grown : Output) : Type 0 where
-    pub cause : HasFaultBehind device old Kinds past fault new ⊎ LacksMemory device old fault new
+    pub cause : HasFaultBehind device old Kinds bytes past fault new ⊎ LacksMemory device old fault new
     pub puts : PutsLines out (settled (member_items past)) grown
     pub works : WorksAsBefore out grown
 
@@ -236,19 +248,18 @@ module _ {S A State : Type 0} (settled : List A → List ℕ) (Kinds : Kind → 
     pub served : device.has_failed (source_of new.below) ≡ device.has_failed (source_of old.below)
 
   -- why the members weren't all taken
-  abbrev pub FeedStopCause : MemberReader S A State → Output → List (Member A) → FaultValue
+  abbrev pub FeedStopCause : MemberReader S A State → Output → List ℕ → List (Member A) → FaultValue
       → MemberReader S A State → Output → Type 0
-  FeedStopCause old out past fault new grown =
-      StopsTaking old out past fault new grown ⊎ StopsWriting old out past fault new grown
+  FeedStopCause old out bytes past fault new grown =
+      StopsTaking old out bytes past fault new grown ⊎ StopsWriting old out past fault new grown
 
   -- the members were taken up to a fault
   pub record FeedsUpTo (old : MemberReader S A State) (out : Output) (fault : FaultValue)
       (new : MemberReader S A State) (grown : Output) : Type 0 where
     pub past : List (Member A)
     pub took : Took old out past new grown
-    pub begins : IfSome (good_coming device.left old)
-        (λ good. (rest : List (Member A)) × (good.members ≡ past ++ rest))
-    pub cause : FeedStopCause old out past fault new grown
+    pub begins : BeginsWith old took.bytes.0 past new
+    pub cause : FeedStopCause old out took.bytes.0 past fault new grown
     -- unless a write failed, what was put is what the members of the lines before settle
     pub exact : fault ≢ write_failed → PutsLines out (settled (member_items took.before)) grown
 

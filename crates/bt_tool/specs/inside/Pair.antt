@@ -1,17 +1,17 @@
 -- Runs over two readers: how far they come, and how they end.
-use Rattle.std.specs.Prelude.{◌≡◌, ℕ, ◌^◌, ◌<◌, ◌≤◌, ◌||◌, Bool, true, List, [], ◌++◌, flat_map, length, Option, None, IfSome, IsSome, is_none, option_map, option_to_list, ◌⊎◌, All, false, ◌∷◌, Some}
+use Rattle.std.specs.Prelude.{◌≡◌, ℕ, ◌^◌, ◌<◌, ◌≤◌, ◌||◌, Bool, true, List, [], ◌++◌, flat_map, length, Option, None, IsSome, is_none, option_map, option_to_list, ◌⊎◌, All, false, ◌∷◌, Some}
 use Rattle.std.specs.List.{list_all}
 use Rattle.bt_lines.specs.declared.device.Source.{Ghosts as Source}
 use Rattle.bt_lines.specs.model.Fault.{FaultValue, read_failed}
 use Rattle.bt_lines.specs.calls.Faults.{no_memory, write_failed}
 use Rattle.bt_lines.specs.model.Lines.{TextLine}
 use Rattle.bt_lines.specs.calls.Output.{Output, Grows, WorksAsBefore}
-use Rattle.bt_lines.specs.calls.Reader.{bytes_taken, end_told, fault_kept as line_fault, lines_left, source_of, Hands, lines_given}
+use Rattle.bt_lines.specs.calls.Reader.{bytes_taken, end_told, fault_kept as line_fault, lines_coming, source_of, Hands, lines_given}
 use Rattle.bt_lines.specs.declared.fault.Kind.{Kind}
 use Rattle.bt_bed.specs.model.Good.{Good, Member, items_in}
 use Rattle.bt_bed.specs.calls.Stage.{Stage, given}
-use Rattle.bt_bed.specs.calls.Reading.{MemberReader, ahead_in, good_coming}
-use Rattle.bt_tool.specs.inside.Feed.{HasPut, member_items, AreAll, IsReadFor, PassesMembers, CutsLines, PutsLines, TookButBlock, HasFaultBehind, IsKeptBelow, IsReadTo}
+use Rattle.bt_bed.specs.calls.Reading.{MemberReader, ahead_in}
+use Rattle.bt_tool.specs.inside.Feed.{BeginsWith, HasPut, WhateverComes, member_items, AreAll, IsReadFor, PassesMembers, CutsLines, PutsLines, TookButBlock, HasFaultBehind, IsKeptBelow, IsReadTo}
 use Rattle.bt_lines.specs.declared.fault.Input.{Input}
 use Rattle.bt_lines.specs.declared.fault.Input.TheVariants.{Second}
 use Rattle.bt_bed.specs.model.BedLine.{fault_at_line}
@@ -60,6 +60,7 @@ pub record MayCome {Y : Type 0} (seen : List Y) (ended : Bool) (second : List Y)
 pub record Serves {S A State : Type 0} (failed : S → Bool)
     (old new : MemberReader S A State) : Type 0 where
   pub served : failed (source_of new.below) ≡ failed (source_of old.below)
+  pub clear : line_fault new.below ≡ None
   pub within : bytes_taken new.below < 2 ^ 63
 
 -- the item of the member that a reader has ahead
@@ -75,14 +76,10 @@ module _ {X Y : Type 0} (join : JoinDef X Y) where
         → (list_all (λ x. is_none fault || join.decided x second) written ≡ true)
         × (flat_map (λ x. join.bytes x second) written ≡ bytes)
 
--- the members of the second input are known
-abbrev pub IsKnown : {A B X Y U V : Type 0} → Pair A B X Y U V → Type 0
-IsKnown pair = IsSome (good_coming pair.source_b.left pair.second)
-
--- the first input reported its end, and it has at most `count` lines
-abbrev pub HasNoMore : {A B X Y U V : Type 0} → Pair A B X Y U V → MemberReader A X U → ℕ → Type 0
-HasNoMore pair first count = (pair.source_a.end_told (source_of first.below) ≡ true)
-    × IfSome (lines_left pair.source_a.left pair.first.below) (λ lines. length lines ≤ count)
+-- the first input reported its end, and the bytes that it handed over have at most `count` lines
+abbrev pub HasNoMore : {A B X Y U V : Type 0} → Pair A B X Y U V → List ℕ → MemberReader A X U → ℕ → Type 0
+HasNoMore pair bytes first count =
+    (end_told first.below ≡ true) × (length (lines_coming bytes pair.first.below) ≤ count)
 
 module _ {A B X Y U V : Type 0} (join : JoinDef X Y) (pair : Pair A B X Y U V) (out : Output)
     (stage : Stage X Y) (past_first : List (Member X)) (past_second : List (Member Y)) where
@@ -94,48 +91,43 @@ module _ {A B X Y U V : Type 0} (join : JoinDef X Y) (pair : Pair A B X Y U V) (
     pub all_given : given stage ≡ member_items past_first
     pub all_taken : stage.taken ≡ member_items past_second
     pub bytes : List ℕ
-    pub settles : IsKnown pair → SettlesPair join stage.written bytes
+    pub settles : SettlesPair join stage.written bytes
         (stage.taken ++ option_to_list (item_ahead second)) stage.second_ended
     pub first_all : stage.first_ended ≡ true
-        → AreAll pair.source_a pair.first past_first
+        → AreAll pair.source_a pair.first first_passes.bytes.0 past_first first
         × (stage.waiting ≡ None) × (first.buffered ≡ []) × (end_told first.below ≡ true)
     pub second_all : stage.second_ended ≡ true
-        → AreAll pair.source_b pair.second past_second
+        → AreAll pair.source_b pair.second second_passes.bytes.0 past_second second
         × (second.buffered ≡ []) × (end_told second.below ≡ true)
     pub put : HasPut out bytes grown
     -- the first input was read as far as the members written need
     pub near_first : (past : List (Member X)) × (member_items past ≡ stage.written)
-        × (read : IsReadFor pair.source_a pair.first past past_first first)
-        × (stage.first_ended ≡ true → HasNoMore pair first read.to.count)
+        × (read : IsReadFor pair.source_a pair.first first_passes.bytes.0 past past_first first)
+        × (stage.first_ended ≡ true → HasNoMore pair first_passes.bytes.0 first read.to.count)
 
 -- How a run over two readers of members ends.
 
 module _ {A B X Y U V : Type 0} (join : JoinDef X Y) (pair : Pair A B X Y U V)
-    (out : Output) where
+    (out : Output) (first_bytes second_bytes : List ℕ) where
   -- what is written at the end: these members of the first input, whatever the second has
   pub record Wrote (written : List X) (bytes : List ℕ) (first : MemberReader A X U)
       (second : MemberReader B Y V) (grown : Output) : Type 0 where
     pub seen : List (Member Y)
     pub ended : Bool
-    pub settles : IsKnown pair → SettlesPair join written bytes (member_items seen) ended
-    pub first_begins : IfSome (good_coming pair.source_a.left pair.first)
-        (λ good. (rest : List X) × (items_in good ≡ written ++ rest))
-    pub second_begins : IfSome (good_coming pair.source_b.left pair.second)
-        (λ good. (rest : List (Member Y)) × (good.members ≡ seen ++ rest))
+    pub settles : SettlesPair join written bytes (member_items seen) ended
+    pub first_begins : WhateverComes pair.first first_bytes first (λ good. (rest : List X) × (items_in good ≡ written ++ rest))
+    pub second_begins : BeginsWith pair.second second_bytes seen second
     -- where the reader stopped they are on the lines given
     pub low : IsSome second.fault → All (λ m. m.line ≤ lines_given second.below) seen
-    pub second_all : ended ≡ true → AreAll pair.source_b pair.second seen
+    pub second_all : ended ≡ true → AreAll pair.source_b pair.second second_bytes seen second
     -- the members that were given, those that were taken, and the one ahead
     pub given : List X
     pub taken : List (Member Y)
     pub ahead : Option (Member Y)
     pub sees : seen ≡ taken ++ option_to_list ahead
     pub none_ahead : ended ≡ true → ahead ≡ None
-    pub given_begin : IfSome (good_coming pair.source_a.left pair.first)
-        (λ good. (rest : List X) × (items_in good ≡ given ++ rest))
-    pub fits : IsKnown pair → join.Fits given taken
-    pub first_bytes : (bytes : List ℕ) × Hands pair.source_a pair.first.below bytes first.below
-    pub second_bytes : (bytes : List ℕ) × Hands pair.source_b pair.second.below bytes second.below
+    pub given_begin : WhateverComes pair.first first_bytes first (λ good. (rest : List X) × (items_in good ≡ given ++ rest))
+    pub fits : join.Fits given taken
     pub grows : Grows out.took grown.took
 
   -- all good members of the first input are written, and its fault is reported
@@ -144,13 +136,13 @@ module _ {A B X Y U V : Type 0} (join : JoinDef X Y) (pair : Pair A B X Y U V)
     pub past : List (Member X)
     pub all : written ≡ member_items past
     pub all_given : given ≡ member_items past
-    pub cause : HasFaultBehind pair.source_a pair.first join.first_kinds past fault first
+    pub cause : HasFaultBehind pair.source_a pair.first join.first_kinds first_bytes past fault first
     pub serves : Serves pair.source_b.has_failed pair.second second
 
   -- the fault of the second input, after these members
   pub record SecondFails (ended : Bool) (past : List (Member Y)) (second : MemberReader B Y V)
       (fault : FaultValue) : Type 0 where
-    pub cause : HasFaultBehind pair.source_b pair.second join.second_kinds
+    pub cause : HasFaultBehind pair.source_b pair.second join.second_kinds second_bytes
         past fault second
     pub before_end : ended ≡ true → (input : Input) (line : ℕ) → fault ≡ read_failed input line → ⊥
 
@@ -160,12 +152,11 @@ module _ {A B X Y U V : Type 0} (join : JoinDef X Y) (pair : Pair A B X Y U V)
       (second : MemberReader B Y V) (fault : FaultValue) : Type 0 where
     pub past : List (Member Y)
     pub waiting : X
-    pub begins : IfSome (good_coming pair.source_a.left pair.first)
+    pub begins : WhateverComes pair.first first_bytes first
         (λ good. (rest : List X) × (items_in good ≡ written ++ waiting ∷ rest))
-    pub undecided : IfSome (good_coming pair.source_b.left pair.second)
-        (λ good. join.decided waiting (member_items past) ≡ false)
+    pub undecided : join.decided waiting (member_items past) ≡ false
     pub fails : SecondFails ended past second fault
-    pub fits : IsKnown pair → join.Fits (written ++ waiting ∷ []) past
+    pub fits : join.Fits (written ++ waiting ∷ []) past
     pub serves : Serves pair.source_a.has_failed pair.first first
 
   -- a member of the first waits that the members of the second up to one don't decide, and the
@@ -175,12 +166,11 @@ module _ {A B X Y U V : Type 0} (join : JoinDef X Y) (pair : Pair A B X Y U V)
     pub past : List (Member Y)
     pub m : Member Y
     pub waiting : X
-    pub begins : IfSome (good_coming pair.source_a.left pair.first)
+    pub begins : WhateverComes pair.first first_bytes first
         (λ good. (rest : List X) × (items_in good ≡ written ++ waiting ∷ rest))
-    pub comes : IfSome (good_coming pair.source_b.left pair.second)
-        (λ good. (rest : List (Member Y)) × (good.members ≡ (past ++ m ∷ []) ++ rest))
+    pub comes : BeginsWith pair.second second_bytes (past ++ m ∷ []) second
     pub undecided : join.decided waiting (member_items (past ++ m ∷ [])) ≡ false
-    pub cuts : IsKnown pair → (later : List X) (more : List (Member Y)) (other : Option FaultValue)
+    pub cuts : (later : List X) (more : List (Member Y)) (other : Option FaultValue)
         → join.within_limit (written ++ waiting ∷ later)
         (record { members = (past ++ m ∷ []) ++ more; fault = other })
         ≡ record { members = past ++ m ∷ []; fault = Some fault }
@@ -196,8 +186,7 @@ module _ {A B X Y U V : Type 0} (join : JoinDef X Y) (pair : Pair A B X Y U V)
     pub kind : Kind
     pub is : fault ≡ fault_at_line Second line kind
     pub of_kind : join.second_kinds kind
-    pub told : IfSome (good_coming pair.source_b.left pair.second)
-        (λ good. join.last written good.members ≡ Some fault)
+    pub told : WhateverComes pair.second second_bytes second (λ good. join.last written good.members ≡ Some fault)
     pub serves : Serves pair.source_b.has_failed pair.second second
 
   -- all of the first is written, and the second was read to its end, to its fault
@@ -207,10 +196,10 @@ module _ {A B X Y U V : Type 0} (join : JoinDef X Y) (pair : Pair A B X Y U V)
     pub past : List (Member X)
     pub past_second : List (Member Y)
     pub all : written ≡ member_items past
-    pub whole : AreAll pair.source_a pair.first past
+    pub whole : AreAll pair.source_a pair.first first_bytes past first
     pub serves : Serves pair.source_a.has_failed pair.first first
     pub rest : ((fault ≡ None)
-        × AreAll pair.source_b pair.second past_second
+        × AreAll pair.source_b pair.second second_bytes past_second second
         × Serves pair.source_b.has_failed pair.second second × (join.last written past_second ≡ None))
         ⊎ (((other : FaultValue) × (fault ≡ Some other) × SecondFails ended past_second second other
         × (join.last written past_second ≡ None))
@@ -238,7 +227,7 @@ module _ {A B X Y U V : Type 0} (join : JoinDef X Y) (pair : Pair A B X Y U V)
   pub record AsksFor (given_first : List (Member X)) (second : MemberReader B Y V) : Type 0 where
     pub past : List (Member Y)
     pub reached : join.Asks (member_items given_first) (member_items past)
-    pub near : IsKnown pair → IsReadTo pair.source_b pair.second past second
+    pub near : IsReadTo pair.source_b pair.second second_bytes past second
 
   -- how far the inputs were read beside what was written
   pub record StaysNear (first : MemberReader A X U) (second : MemberReader B Y V)
@@ -251,17 +240,21 @@ module _ {A B X Y U V : Type 0} (join : JoinDef X Y) (pair : Pair A B X Y U V)
     pub past : List (Member X)
     pub given_first : List (Member X)
     pub items : member_items past ≡ written
-    pub first_near : IsReadFor pair.source_a pair.first past given_first first
-    pub beside : HasNoMore pair first first_near.to.count ⊎ AsksFor given_first second
+    pub first_near : IsReadFor pair.source_a pair.first first_bytes past given_first first
+    pub beside : HasNoMore pair first_bytes first first_near.to.count ⊎ AsksFor given_first second
 
-  -- the run is over
+module _ {A B X Y U V : Type 0} (join : JoinDef X Y) (pair : Pair A B X Y U V)
+    (out : Output) where
+  -- the run is over, and its inputs handed over these bytes
   pub record PairEnds (fault : Option FaultValue) (first : MemberReader A X U)
       (second : MemberReader B Y V) (grown : Output) : Type 0 where
+    pub first_bytes : (bytes : List ℕ) × Hands pair.source_a pair.first.below bytes first.below
+    pub second_bytes : (bytes : List ℕ) × Hands pair.source_b pair.second.below bytes second.below
     pub written : List X
     pub bytes : List ℕ
-    pub wrote : Wrote written bytes first second grown
-    pub why : Why written bytes wrote.given wrote.ended first second fault grown
-    pub near : StaysNear first second grown
+    pub wrote : Wrote join pair out first_bytes.0 second_bytes.0 written bytes first second grown
+    pub why : Why join pair out first_bytes.0 second_bytes.0 written bytes wrote.given wrote.ended first second fault grown
+    pub near : StaysNear join pair out first_bytes.0 second_bytes.0 first second grown
     -- at a fault, unless a write failed, those bytes were put
     pub exact : IsFaultButWrite fault → PutsLines out near.bytes grown
 

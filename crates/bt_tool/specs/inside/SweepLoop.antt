@@ -30,9 +30,9 @@ use Rattle.bt_tool.specs.declared.loops.sweeping.SweepConfig.{SweepConfig}
 use Rattle.bt_tool.specs.declared.loops.sweeping.SweepRun.{SweepRun}
 use Rattle.bt_tool.specs.model.Reaches.{records_need}
 use Rattle.bt_tool.specs.model.TwoInputs.{IsSweptKind}
-use Rattle.bt_tool.specs.inside.Pair.{Comes, IsKnown, JoinDef, Pair, IsOverWith}
+use Rattle.bt_tool.specs.inside.Pair.{Comes, JoinDef, Pair, IsOverWith}
 use Rattle.bt_tool.specs.inside.Rounds.{IsBuffered, TwoInputDef}
-use Rattle.bt_tool.specs.inside.Feed.{AreAll, PassesMembers, StopsAfter}
+use Rattle.bt_tool.specs.inside.Feed.{IsLater, AreAll, PassesMembers, StopsAfter}
 
 -- Whatever comes after them of either input, by these records of the first the limit doesn't lie
 -- among these of the second.
@@ -100,8 +100,7 @@ module _ {A B O : Type 0} {g : Ghosts O} (source_a : Source A) (source_b : Sourc
     -- they go by the order from the beginning
     pub first_order : order_in first ≡ order_in old_first
     pub second_order : order_in second ≡ order_in old_second
-    pub fits : IsKnown (records_pair source_a source_b old_first old_second)
-        → AreWithin order config.limit (given stage) past_second
+    pub fits : AreWithin order config.limit (given stage) past_second
 
 -- how many rounds are wanted beside those that consume: 2 while a record waits, 1 until the first
 -- input ends
@@ -149,12 +148,13 @@ module _ {A B O : Type 0} {g : Ghosts O} where
   }
 
 module _ {S A State : Type 0} (device : Source S)
-    (old : MemberReader S A State) (past : List (Member A)) (before : MemberReader S A State) where
+    (old : MemberReader S A State) (bytes : List ℕ) (past : List (Member A)) (before : MemberReader S A State) where
   -- a fault lies after some of them
   pub record ChecksUpTo (Kinds : Kind → Type 0) (fault : FaultValue)
       (new : MemberReader S A State) : Type 0 where
     pub more : List (Member A)
     pub stops : StopsAfter device old Kinds (past ++ more) fault new
+    pub later : IsLater bytes before.below stops.bytes.0 new.below
     -- those that were consumed and the one ahead are on the lines given
     pub low : All (λ m. m.line ≤ lines_given new.below) (past ++ option_to_list (ahead_in before))
     pub before_end : end_told before.below ≡ true → (input : Input) (line : ℕ)
@@ -164,14 +164,15 @@ module _ {S A State : Type 0} (device : Source S)
   abbrev pub ChecksRest : {T : Type 0} → (Kind → Type 0) → Result T Fault → MemberReader S A State
       → Type 0
   ChecksRest Kinds (Ok done) new = (more : List (Member A))
-      × PassesMembers device old (past ++ more) new × AreAll device old (past ++ more)
+      × (passes : PassesMembers device old (past ++ more) new) × AreAll device old passes.bytes.0 (past ++ more) new
+      × IsLater bytes before.below passes.bytes.0 new.below
   ChecksRest Kinds (Err fault) new = ChecksUpTo Kinds (fault_value fault) new
 
 -- reading on to the end, from wherever the reader is
 abbrev pub ReadsRest : {S A State T : Type 0} → Source S → (Kind → Type 0) → MemberReader S A State
     → Result T Fault → MemberReader S A State → Type 0
 ReadsRest {S} {A} {State} {T} device Kinds before result new =
-    (old : MemberReader S A State) (past : List (Member A)) → PassesMembers device old past before
+    (old : MemberReader S A State) (past : List (Member A)) → (passes : PassesMembers device old past before)
     → ((state : State) (line : TextLine) (kind : Kind) → old.format.says state line ≡ Err kind
     → Kinds kind)
-    → ChecksRest device old past before Kinds result new
+    → ChecksRest device old passes.bytes.0 past before Kinds result new

@@ -1,5 +1,5 @@
 -- Lemmas on driving an engine, from the records that it takes to the report on what its input hands over.
-use Rattle.bt_lines.proofs.Std.{false, ◌≡◌, ℕ, suc, ◌-◌, true, List, [], ◌++◌, take, Option, None, Some, Ok, refl, sym, ap, ◌∙◌, subst, append-nil, append_assoc, arith, inl, inr, ◌≢◌, ⊤, IfSome, map-append, Appends, Consumes, Bool, ◌∷◌, flat_map-append, Appends-nil, false≢true}
+use Rattle.bt_lines.proofs.Std.{false, ◌≡◌, ℕ, suc, ◌-◌, true, List, [], ◌++◌, take, Option, None, Some, Ok, refl, sym, ap, ◌∙◌, subst, append-nil, append_assoc, arith, inl, inr, ◌⊎◌, ◌≢◌, ⊤, IfSome, map-append, Appends, Consumes, Bool, ◌∷◌, flat_map-append, Appends-nil, false≢true}
 use Rattle.bt_lines.specs.declared.device.Source.{Ghosts as Source}
 use Rattle.bt_lines.proofs.lemmas.reader.block.ReadsLemmas.{some_is}
 use Rattle.bt_lines.proofs.lemmas.Writer.{grows_both}
@@ -16,7 +16,7 @@ use Rattle.bt_bed.specs.model.BedLine.{fault_at_line, interval_line, interval_li
 use Rattle.bt_bed.specs.model.Good.{Format, Good, Member, good, good_handed, items_in, bed_format}
 use Rattle.bt_bed.proofs.lemmas.read.good.SaidLemmas.{first_from}
 use Rattle.bt_lines.proofs.lemmas.reader.lines.TextLemmas.{lines_are_numbered}
-use Rattle.bt_bed.specs.calls.Reading.{IsBeyond, MemberReader, good_coming}
+use Rattle.bt_bed.specs.calls.Reading.{IsBeyond, MemberReader}
 use Rattle.bt_bed.specs.model.Order.{Order}
 use Rattle.bt_bed.specs.model.Sorted.{sorting_of}
 use Rattle.bt_bed.specs.calls.SortedReader.{view_with}
@@ -25,14 +25,14 @@ use Rattle.bt_runs.specs.calls.Engine.{SettledBegins, SettledStays}
 use Rattle.bt_bed.specs.declared.order.ChromOrder.{Ghosts}
 use Rattle.bt_bed.specs.declared.read.records.Records.{Records}
 use Rattle.bt_bed.proofs.lemmas.Definitions.{placed_good, non_empty_good, placed_lines}
-use Rattle.bt_tool.specs.calls.Run.{IsFaultButWrite, IsReported, IsWithin, ReadsNoFurther, WritesBy, IsOwnFailure, TellsOwnReads, RunsAlone}
+use Rattle.bt_tool.specs.calls.Run.{IsFaultButWrite, IsReported, IsWithin, ReadsNoFurther, TellsDevice, TellsInput, WritesBy, IsOwnFailure, TellsOwnReads, RunsAlone}
 use Rattle.bt_tool.specs.model.Behaviour.{of_members, of_records}
-use Rattle.bt_tool.specs.calls.Inputs.{Holds, OfBoth}
-use Rattle.bt_tool.proofs.lemmas.running.members.CursorLemmas.{Came, BeginsAt, at_whole, came_whole, good_whole, handed_to, says_fault, begins_over}
-use Rattle.bt_tool.specs.inside.Feed.{FeedStopCause, CutsLines, PutsLines, FeedsAll, FeedsUpTo, TookButBlock, IsReadFor, member_items, LineRefused, sam_reader, IsFresh, IsKeptBelow, PassesMembers}
+use Rattle.bt_tool.specs.calls.Inputs.{InputRead, MayHold, OfBoth}
+use Rattle.bt_tool.proofs.lemmas.running.members.CursorLemmas.{Came, BeginsAt, at_whole, came_whole, good_whole, handed_to, read, reads_so, says_fault, begins_over, tells_read}
+use Rattle.bt_tool.specs.inside.Feed.{BeginsWith, FeedStopCause, WhateverComes, CutsLines, PutsLines, FeedsAll, FeedsUpTo, TookButBlock, IsReadFor, member_items, LineRefused, sam_reader, IsFresh, IsKeptBelow, PassesMembers}
 use Rattle.bt_bed.specs.model.Meeting.{Report}
 use Rattle.bt_tool.specs.model.Written.{members_report, members_settle, report_by, Written, IsOneOf, alignment_lines, alignments_written, merge_written, pooled_written, coverage_written}
-use Rattle.bt_tool.proofs.lemmas.running.feed.FeedLemmas.{GoesOn, front_all, took_later, Fed, fails_writing, fed_all, fed_none, fed_up_to, goes_same, put_more}
+use Rattle.bt_tool.proofs.lemmas.running.feed.FeedLemmas.{GoesOn, front_all, took_later, Fed, fails_writing, fed_all, fed_none, fed_up_to, goes_same, put_more, text_grows}
 use Rattle.bt_tool.proofs.lemmas.running.feed.WritingLemmas.{is_whole, alone_writes}
 use Rattle.bt_tool.proofs.lemmas.running.members.SeenLemmas.{PutsFront, puts_front}
 use Rattle.std.specs.Option.{option_map_or}
@@ -75,15 +75,17 @@ pub records_sorted : (Taken : List Feature → Type 0) (order : Order) → IsTot
 records_sorted Taken order total takes text = grind (arith, (placed_good First order (whole_text text) total), (non_empty_good First order (whole_text text)))
 
 -- the input is read from its beginning up to `last`, and no later record changes a line that is settled
-pub record IsDriven {S A State : Type 0} (written : Written A) (Taken : List A → Type 0) (device : Source S) (format : Format A State) (old : MemberReader S A State) (first : S) (new : MemberReader S A State) (last : S) : Type 0 where
+pub record IsDriven {S A State : Type 0} (written : Written A) (Taken : List A → Type 0) (format : Format A State) (old : MemberReader S A State) (first : S) (new : MemberReader S A State) (last : S) : Type 0 where
   pub stays : (past more : List A) → Taken (past ++ more) → (rest : List ℕ) × (written.settled (past ++ more) ≡ written.settled past ++ rest)
   pub begins : (past more : List A) → Taken (past ++ more) → (rest : List ℕ) × (written.whole (past ++ more) ≡ written.settled past ++ rest)
   pub taken : (text : List ℕ) → Taken (member_items (good format First (text_lines text)).members)
-  pub starts : BeginsAt device.left format First first old
+  pub starts : BeginsAt format First first old
   pub ended : source_of new.below ≡ last
+  -- a failed read that is kept is kept below
+  pub kept : IsKeptBelow new new.below
 
-module _ {S A State : Type 0} {written : Written A} {Taken : List A → Type 0} {device : Source S} {format : Format A State} {old : MemberReader S A State} {first : S} {new : MemberReader S A State} {last : S}
-    (driven : IsDriven written Taken device format old first new last) (kinds : Kind → Type 0) (Sorted : List A → Type 0) (out : Output) where
+module _ {S A State : Type 0} {written : Written A} {Taken : List A → Type 0} (device : Source S) {format : Format A State} {old : MemberReader S A State} {first : S} {new : MemberReader S A State} {last : S}
+    (driven : IsDriven written Taken format old first new last) (kinds : Kind → Type 0) (Sorted : List A → Type 0) (out : Output) {bytes : List ℕ} (hands : Hands device old.below bytes new.below) where
   -- what is good of what was handed over
   abbrev good_of : Handed → Good A
   good_of handed = good_handed format First handed
@@ -91,8 +93,11 @@ module _ {S A State : Type 0} {written : Written A} {Taken : List A → Type 0} 
   abbrev report : Handed → Report
   report = members_report written format
 
-  of_text : (text : List ℕ) → device.left first ≡ Some text → (P : Good A → Type 0) → IfSome (good_coming device.left old) P → P (good_of (whole_text text))
-  of_text = at_whole device old driven.starts new driven.ended
+  abbrev one : InputRead
+  one = read device old driven.starts new driven.ended hands
+
+  of_text : {handed : Handed} → MayHold one handed → (P : Good A → Type 0) → WhateverComes old bytes new P → P (good_of handed)
+  of_text = at_whole device old driven.starts new driven.ended hands
 
   -- the report, by these members and the fault
   report_of : (handed : Handed) (past : List (Member A)) (fault : Option FaultValue) → ((good_of handed).members ≡ past) × ((good_of handed).fault ≡ fault)
@@ -104,38 +109,33 @@ module _ {S A State : Type 0} {written : Written A} {Taken : List A → Type 0} 
   begins_by items past rest (Some fault) e t = let b = driven.stays past rest (subst Taken e t) in (b.0, ap written.settled e ∙ b.1)
 
   -- a prefix of the records gives a prefix of the output
-  begins_output : (one : Handed) (past : List (Member A)) → Holds device.left first one → IfSome (good_coming device.left old) (λ good. (rest : List (Member A)) × (good.members ≡ past ++ rest))
-      → (rest : List ℕ) × ((report one).output ≡ written.settled (member_items past) ++ rest)
-  begins_output one past holds b =
-      let here = of_text holds.text holds.known (λ good. (rest : List (Member A)) × (good.members ≡ past ++ rest)) b in
-      let begun = begins_by (items_in (good_of (whole_text holds.text))) (member_items past) (member_items here.0) (good_of (whole_text holds.text)).fault (ap member_items here.1 ∙ items_both past here.0) (driven.taken holds.text) in
-      (begun.0, ap (λ (h : Handed). (report h).output) holds.is ∙ begun.1)
+  begins_output : (handed : Handed) (past : List (Member A)) → MayHold one handed → BeginsWith old bytes past new
+      → (rest : List ℕ) × ((report handed).output ≡ written.settled (member_items past) ++ rest)
+  begins_output handed past holds b =
+      let text = bytes ++ holds.rest in
+      let here = of_text holds (λ good. (rest : List (Member A)) × (good.members ≡ past ++ rest)) b in
+      let taken : Taken (items_in (good_of handed)) = subst (λ h. Taken (items_in (good_of h))) (sym holds.is) (subst (λ (g : Good A). Taken (items_in g)) (sym (good_whole format First text)) (driven.taken text)) in
+      begins_by (items_in (good_of handed)) (member_items past) (member_items here.0) (good_of handed).fault (ap member_items here.1 ∙ items_both past here.0) taken
 
   -- how far the input was read
-  near_by : {one : Handed} {before took : List ℕ} → Holds device.left first one → out.put ≡ Some before → out.took ≡ Some took → (bytes : List ℕ) × Hands device old.below bytes new.below
-      → {past : List (Member A)} → IsReadFor device old past past new → {grown : Output} → TookButBlock out (written.settled (member_items past)) grown
+  near_by : {handed : Handed} {before took : List ℕ} → MayHold one handed → out.put ≡ Some before → out.took ≡ Some took
+      → {past : List (Member A)} (read : IsReadFor device old bytes past past new) → {grown : Output} → TookButBlock out (written.settled (member_items past)) grown
       → (Stopped : Type 0) → (Stopped → PutsLines out (written.settled (member_items past)) grown)
-      → ReadsNoFurther (λ n. IsWithin (device.end_told last) one.text n → ⊤) (λ lines. (good format First lines).fault) (members_settle written format) one.text (device.left last) before grown.took (grown.has_failed ≡ true) Stopped grown.put
-  near_by {before} {took} holds put known hands {past} read {grown} kept Stopped exact =
-      let text = holds.text in
-      let e = holds.known in
+      → ReadsNoFurther (suc read.to.count) (IsWithin one.told handed.text (suc read.to.count) → ⊤) (λ lines. (good format First lines).fault) (members_settle written format) handed.text bytes before grown.took (grown.has_failed ≡ true) Stopped grown.put
+  near_by {before = before} {took = took} holds put known {past = past} read {grown = grown} kept Stopped exact =
+      let text = bytes ++ holds.rest in
       let count = read.to.count in
-      let handed = handed_to device old driven.starts new driven.ended count text e read.to.near hands in
-      let b = subst (λ (g : Good A). (rest : List (Member A)) × (g.members ≡ past ++ rest) × IsBeyond count (record { members = rest; fault = g.fault })) (good_whole format First text)
-      (of_text text e (λ good. (rest : List (Member A)) × (good.members ≡ past ++ rest) × IsBeyond count (record { members = rest; fault = good.fault })) read.to.behind) in
+      let b = subst (λ (g : Good A). (rest : List (Member A)) × (g.members ≡ past ++ rest) × IsBeyond count (record { members = rest; fault = g.fault })) (driven.starts.good text) (read.to.behind holds.rest holds.follows) in
       let on_first : good format First (take count (text_lines text)) ≡ record { members = past; fault = None } =
       first_from format First count 1 format.begin (text_lines text) (omega arith) (lines_are_numbered 1 text) b.1 refl read.low b.2 in
       let on_lines : written.settled (member_items past) ≡ members_settle written format (take count (text_lines text)) =
       sym (ap (λ (g : Good A). written.settled (items_in g)) on_first) in
       let settled = subst (λ l. TookButBlock out l grown) on_lines kept in
       let less : suc count - 1 ≡ count = omega arith in
-      subst (λ (h : Handed). ReadsNoFurther (λ n. IsWithin (device.end_told last) h.text n → ⊤) (λ lines. (good format First lines).fault) (members_settle written format) h.text (device.left last) before grown.took (grown.has_failed ≡ true) Stopped grown.put) (sym holds.is) (record {
-        n = suc count;
+      subst (λ (h : Handed). ReadsNoFurther (suc count) (IsWithin one.told h.text (suc count) → ⊤) (λ lines. (good format First lines).fault) (members_settle written format) h.text bytes before grown.took (grown.has_failed ≡ true) Stopped grown.put) (sym holds.is) (record {
         some = omega arith;
         faultless = rw less (ap (λ (g : Good A). g.fault) on_first);
-        handed = handed.0;
-        consumed = subst (λ o. Consumes o (device.left last) handed.0) e handed.1;
-        read = handed.2;
+        read = handed_to device old driven.starts new driven.ended hands count holds.rest holds.follows read.to.near;
         settled = rw less (settled.took before took put known);
         kept = rw less (elim settled.put [ inl failed ↦ inl failed | inr kept ↦ inr (kept before put) ]);
         exact = rw less (λ stops. exact stops before put ∙ ap (λ l. Some (before ++ l)) on_lines);
@@ -144,84 +144,124 @@ module _ {S A State : Type 0} {written : Written A} {Taken : List A → Type 0} 
 
   module _ (fault : FaultValue) (grown : Output) where
     abbrev Cause : List (Member A) → Type 0
-    Cause past = FeedStopCause written.settled kinds Sorted device old out past fault new grown
+    Cause past = FeedStopCause written.settled kinds Sorted device old out bytes past fault new grown
 
     -- the report, by what the fault of the input says of it
-    reported_by : (past : List (Member A)) (handed : Handed) (before : List ℕ) → Came device first last (Some fault) handed → out.put ≡ Some before
-        → Some fault ≢ Some write_failed → Some fault ≢ Some no_memory → (bytes : List ℕ) × Hands device old.below bytes new.below → Cause past → IsReported (report handed) before (Some fault) grown
-    reported_by past handed before came put write memory hands (inl taking) =
+    reported_by : (past : List (Member A)) (handed : Handed) (before : List ℕ) → Came one (Some fault) handed → out.put ≡ Some before
+        → Some fault ≢ Some write_failed → Some fault ≢ Some no_memory → Cause past → IsReported (report handed) before (Some fault) grown
+    reported_by past handed before came put write memory (inl taking) =
         elim taking.cause [
-          | inl behind ↦ grind (arith, (report_of handed past (Some fault) (says_fault device old driven.starts new driven.ended kinds past fault handed came hands behind)))
+          | inl behind ↦
+              let is = report_of handed past (Some fault) (says_fault device old driven.starts new driven.ended hands kinds past fault handed came driven.kept behind) in
+              (sym (ap (λ (r : Report). r.fault) is), taking.puts before put ∙ ap (λ (r : Report). Some (before ++ r.output)) (sym is))
           | inr lacks ↦ absurd (memory (ap Some lacks.is))
         ]
-    reported_by past handed before came put write memory hands (inr writing) = absurd (write (ap Some writing.is))
+    reported_by past handed before came put write memory (inr writing) = absurd (write (ap Some writing.is))
 
     puts_by : (past : List (Member A)) → Cause past → fault ≢ write_failed → PutsFront out (written.settled (member_items past)) grown
-    puts_by past p1 other = grind (arith, puts_front)
+    puts_by past (inl taking) other = puts_front out (written.settled (member_items past)) grown taking.puts
+    puts_by past (inr writing) other = absurd (other writing.is)
 
     cut_by : (past : List (Member A)) → Cause past → fault ≡ write_failed → CutsLines out (written.settled (member_items past)) grown
     cut_by past p1 e = grind arith
 
-    pub drives_fault : FeedsUpTo written.settled kinds Sorted device old out fault new grown → WritesBy device device (of_members kinds written format) first None out (Some fault) last None grown
-    drives_fault fed = record {
-      whole = λ one two before reads others put write memory. reported_by fed.past one before (inl reads) put write memory fed.took.bytes fed.cause;
-      told = λ one two before holds others put is. reported_by fed.past one before (inr (is_whole device first last (Some fault) one holds is)) put is.no_write is.no_growth fed.took.bytes fed.cause;
-      cut = λ is one two before holds others put.
-          let more = begins_output one fed.past holds fed.begins in
-          (written.settled (member_items fed.past), more.0, more.1, (cut_by fed.past fed.cause (some_is fault write_failed is)).front before put);
-      kept = λ other one two before holds others put.
-          let more = begins_output one fed.past holds fed.begins in
-          let part = puts_by fed.past fed.cause (λ is. other (ap Some is)) in
-          (part.front, part.rest ++ more.0, more.1 ∙ ap (λ l. l ++ more.0) part.parts ∙ append_assoc part.front part.rest more.0, part.puts before put);
-      grows = fed.took.grows;
-      served = λ e. cc;
-      near = λ one two before taken holds others put known. near_by holds put known fed.took.bytes fed.took.read fed.took.kept
-          (IsFaultButWrite (Some fault)) (λ stops. fed.exact (λ is. stops.1 (ap Some is)));
-      named = λ told e. grind arith;
-    }
+  -- what the fault is
+  named_by : {fault : FaultValue} {past : List (Member A)} {grown : Output} → FeedStopCause written.settled kinds Sorted device old out bytes past fault new grown
+      → (TellsInput device kinds First one last fault ⊎ ⊥) ⊎ TellsDevice grown.sink_has_failed grown.sink_last_failed fault
+  named_by {fault} (inl taking) =
+      elim taking.cause [
+        | inl fails ↦ elim fails [
+          | inl wrong ↦ inl (inl (inl (record { line = wrong.line; kind = wrong.kind; of_kind = wrong.of_kind; is = wrong.is ∙ ap (λ i. fault_at_line i wrong.line wrong.kind) driven.starts.input_is })))
+          | inr unread ↦ inl (inl (inr (tells_read device old driven.starts new driven.ended hands unread)))
+        ]
+        | inr lacks ↦ inr (inr lacks.is)
+      ]
+  named_by (inr writing) = inr (inl (writing.is, writing.cuts.sink_failed.0, writing.cuts.sink_failed.1))
+
+module _ {S A State : Type 0} {written : Written A} {Taken : List A → Type 0} (device : Source S) {format : Format A State} {old : MemberReader S A State} {first : S} {new : MemberReader S A State} {last : S}
+    (driven : IsDriven written Taken format old first new last) (kinds : Kind → Type 0) (Sorted : List A → Type 0) (out : Output) where
+  -- a command of one input wrote so
+  abbrev pub WritesOne : Option FaultValue → Output → Type 0
+  WritesOne fault grown = WritesBy device device (of_members kinds written format) first None out fault last None grown
+
+  pub drives_fault : {fault : FaultValue} {grown : Output} → FeedsUpTo written.settled kinds Sorted device old out fault new grown → WritesOne (Some fault) grown
+  drives_fault {fault} {grown} fed =
+      let hands = fed.took.bytes.1 in
+      record {
+        one = read device old driven.starts new driven.ended hands;
+        one_reads = reads_so device old driven.starts new driven.ended hands;
+        two = None;
+        two_reads = tt;
+        whole = λ one two before reads others put write memory. reported_by device driven kinds Sorted out hands fault grown fed.past one before (inl reads) put write memory fed.cause;
+        told = λ one two before holds others put is. reported_by device driven kinds Sorted out hands fault grown fed.past one before (inr (is_whole holds is)) put is.no_write is.no_growth fed.cause;
+        cut = λ is one two before holds others put.
+            let more = begins_output device driven kinds Sorted out hands one fed.past holds fed.begins in
+            (written.settled (member_items fed.past), more.0, more.1, (cut_by device driven kinds Sorted out hands fault grown fed.past fed.cause (some_is fault write_failed is)).front before put);
+        kept = λ other one two before holds others put.
+            let more = begins_output device driven kinds Sorted out hands one fed.past holds fed.begins in
+            let part = puts_by device driven kinds Sorted out hands fault grown fed.past fed.cause (λ is. other (ap Some is)) in
+            (part.front, part.rest ++ more.0, more.1 ∙ ap (λ l. l ++ more.0) part.parts ∙ append_assoc part.front part.rest more.0, part.puts before put);
+        grows = fed.took.grows;
+        served = λ e. cc;
+        near = (suc fed.took.read.to.count, λ one two before taken holds others put known. near_by device driven kinds Sorted out hands holds put known fed.took.read fed.took.kept
+            (IsFaultButWrite (Some fault)) (λ stops. fed.exact (λ is. stops.1 (ap Some is))));
+        named = λ told e. subst (λ t. (TellsInput device kinds First (read device old driven.starts new driven.ended hands) last t ⊎ ⊥) ⊎ TellsDevice grown.sink_has_failed grown.sink_last_failed t) (some_is fault told e)
+            (named_by device driven kinds Sorted out hands fed.cause);
+      }
 
   module _ {Stands : List A → Type 0} {grown : Output} (fed : FeedsAll written.settled kinds Sorted device Stands old out new grown) {finished : Output} (goes : GoesOn grown finished) where
-    abbrev Ends : Option FaultValue → Type 0
-    Ends fault = WritesBy device device (of_members kinds written format) first None out fault last None finished
+    abbrev all_hands : Hands device old.below fed.took.bytes.0 new.below
+    all_hands = fed.took.bytes.1
+
+    abbrev all_read : InputRead
+    all_read = read device old driven.starts new driven.ended all_hands
 
     -- the report if all records were taken
-    report_all : (other : Option FaultValue) (handed : Handed) → Came device first last other handed → report handed ≡ report_by written (member_items fed.past) None
+    report_all : (other : Option FaultValue) (handed : Handed) → Came all_read other handed → members_report written format handed ≡ report_by written (member_items fed.past) None
     report_all other handed came =
-        report_of handed fed.past None
-        (came_whole device old driven.starts new driven.ended came fed.took.bytes fed.served fed.within (λ good. (good.members ≡ fed.past) × (good.fault ≡ None)) fed.whole)
+        report_of device driven kinds Sorted out all_hands handed fed.past None
+        (came_whole device old driven.starts new driven.ended all_hands came fed.clear fed.within (λ good. (good.members ≡ fed.past) × (good.fault ≡ None)) fed.whole)
 
-    report_whole : (one : Handed) → Holds device.left first one → report one ≡ report_by written (member_items fed.past) None
-    report_whole one holds = rw holds.is (report_of (whole_text holds.text) fed.past None (of_text holds.text holds.known (λ good. (good.members ≡ fed.past) × (good.fault ≡ None)) fed.whole))
+    report_whole : (one : Handed) → MayHold all_read one → members_report written format one ≡ report_by written (member_items fed.past) None
+    report_whole one holds = report_of device driven kinds Sorted out all_hands one fed.past None (of_text device driven kinds Sorted out all_hands holds (λ good. (good.members ≡ fed.past) × (good.fault ≡ None)) fed.whole)
 
-    near_end : (fault : Option FaultValue) → (IsFaultButWrite fault → ⊥) → (one : Handed) (two : Option Handed) (before taken : List ℕ) → Holds device.left first one → OfBoth (Holds device.left) None two → out.put ≡ Some before → out.took ≡ Some taken
-        → ReadsNoFurther (λ n. IsWithin (device.end_told last) one.text n → ⊤) (λ lines. (good format First lines).fault) (members_settle written format) one.text (device.left last) before finished.took (finished.has_failed ≡ true) (IsFaultButWrite fault) finished.put
-    near_end fault never one two before taken holds others put known =
-        near_by holds put known fed.took.bytes fed.took.read
+    near_end : (fault : Option FaultValue) → (IsFaultButWrite fault → ⊥) → (one : Handed) (two : Option Handed) (before taken : List ℕ) → MayHold all_read one → OfBoth MayHold None two → out.put ≡ Some before → out.took ≡ Some taken
+        → ReadsNoFurther (suc fed.took.read.to.count) (IsWithin all_read.told one.text (suc fed.took.read.to.count) → ⊤) (λ lines. (good format First lines).fault) (members_settle written format) one.text fed.took.bytes.0 before finished.took (finished.has_failed ≡ true) (IsFaultButWrite fault) finished.put
+    near_end fault never handed two before taken holds others put known =
+        near_by device driven kinds Sorted out all_hands holds put known fed.took.read
         (took_later out grown finished (written.settled (member_items fed.took.before)) fed.took.grows goes fed.took.kept) (IsFaultButWrite fault) (λ stops. absurd (never stops))
 
-    pub drives_all : (rest : List ℕ) → written.whole (member_items fed.past) ≡ written.settled (member_items fed.past) ++ rest → Appends grown.put finished.put rest → finished.sink_has_failed ≡ grown.sink_has_failed → Ends None
+    pub drives_all : (rest : List ℕ) → written.whole (member_items fed.past) ≡ written.settled (member_items fed.past) ++ rest → Appends grown.put finished.put rest → finished.sink_has_failed ≡ grown.sink_has_failed → WritesOne None finished
     drives_all rest is appends works =
         let put_all : (before : List ℕ) → out.put ≡ Some before → finished.put ≡ Some (before ++ written.whole (member_items fed.past)) =
-        λ before put. grind (arith, append_assoc) in
-        let ends : (other : Option FaultValue) (handed : Handed) (before : List ℕ) → Came device first last other handed → out.put ≡ Some before → IsReported (report handed) before None finished =
+        λ before put. text_grows grown.put finished.put before (written.settled (member_items fed.past)) rest (written.whole (member_items fed.past)) is appends (fed.puts before put) in
+        let ends : (other : Option FaultValue) (handed : Handed) (before : List ℕ) → Came all_read other handed → out.put ≡ Some before → IsReported (members_report written format handed) before None finished =
         λ other handed before came put.
         let all = report_all other handed came in
         (sym (ap (λ r. r.fault) all), put_all before put ∙ ap (λ r. Some (before ++ r.output)) (sym all)) in
         record {
+          one = all_read;
+          one_reads = reads_so device old driven.starts new driven.ended all_hands;
+          two = None;
+          two_reads = tt;
           whole = λ one two before reads others put write memory. ends None one before (inl reads) put;
-          told = λ one two before holds others put is. ends None one before (inr (is_whole device first last None one holds is)) put;
+          told = λ one two before holds others put is. ends None one before (inr (is_whole holds is)) put;
           cut = λ e. cc;
           kept = λ other one two before holds others put.
               (written.whole (member_items fed.past), [], ap (λ r. r.output) (report_whole one holds) ∙ sym (append-nil (written.whole (member_items fed.past))), put_all before put);
           grows = grows_both out.took grown.took finished.took fed.took.grows goes.took;
           served = λ e. ((ap device.has_failed (sym driven.ended) ∙ fed.served ∙ ap device.has_failed driven.starts.source, tt), works ∙ fed.works.sink_served);
-          near = near_end None (λ stops. stops.0 refl);
+          near = (suc fed.took.read.to.count, near_end None (λ stops. stops.0 refl));
           named = λ told e. cc;
         }
 
     pub drives_cut : {fault : FaultValue} → fault ≡ write_failed → (rest : List ℕ) → written.whole (member_items fed.past) ≡ written.settled (member_items fed.past) ++ rest
-        → IsPrefixOf finished.took grown.put rest → SinkFailed finished → Ends (Some fault)
+        → IsPrefixOf finished.took grown.put rest → SinkFailed finished → WritesOne (Some fault) finished
     drives_cut {fault} is rest whole front sink = record {
+      one = all_read;
+      one_reads = reads_so device old driven.starts new driven.ended all_hands;
+      two = None;
+      two_reads = tt;
       whole = λ one two before reads others put write memory. absurd (write (ap Some is));
       told = λ one two before holds others put of_input. absurd (of_input.no_write (ap Some is));
       cut = λ e one two before holds others put. (
@@ -233,7 +273,7 @@ module _ {S A State : Type 0} {written : Written A} {Taken : List A → Type 0} 
       kept = λ other. absurd (other (ap Some is));
       grows = grows_both out.took grown.took finished.took fed.took.grows goes.took;
       served = λ e. cc;
-      near = near_end (Some fault) (λ stops. stops.1 (ap Some is));
+      near = (suc fed.took.read.to.count, near_end (Some fault) (λ stops. stops.1 (ap Some is)));
       named = λ told e. inr (inl (sym (some_is fault told e) ∙ is, sink.0, sink.1));
     }
 
@@ -280,7 +320,7 @@ module _ {S : Type 0} (split cigar : Bool) (device : Source S) where
           }) tt tt
 
       up_to : (new : MemberReader S Alignment ⊤) (fault : FaultValue) → IsStopped device (sam_reader now) fault new → UpTo fault new grown
-      up_to new fault stopped = grind (arith, fed_up_to, wrong_kinds)
+      up_to new fault stopped = fed_up_to g.fed (λ state line kind says. wrong_kinds line.text kind says) stopped tt
 
       -- the reader reported a fault
       pub stops_reading : (new : LineReader S) (fault : FaultValue) → GivesFault device now fault new → (IsSound device now → IsSound device new) → UpTo fault (sam_reader new) grown
@@ -312,7 +352,7 @@ module _ {S : Type 0} (split cigar : Bool) (device : Source S) where
         pushed : (a : Alignment) → lines_of (member_items g.past ++ a ∷ []) ≡ lines_of (member_items g.past) ++ bed_lines split cigar a
         pushed a = flat_map-append (bed_lines split cigar) (member_items g.past) (a ∷ []) ∙ ap (λ l. lines_of (member_items g.past) ++ l) (append-nil (bed_lines split cigar a))
 
-        with_it : (a : Alignment) → alignment_of line.text ≡ Ok (Some a) → PassesMembers device (sam_reader old) (g.past ++ member_on line a ∷ []) (sam_reader new)
+        abbrev with_it : (a : Alignment) → alignment_of line.text ≡ Ok (Some a) → PassesMembers device (sam_reader old) (g.past ++ member_on line a ∷ []) (sam_reader new)
         with_it a says = passes_some g.fed.passes (sam_reader new) gives kept refl refl gives.goes says refl
 
         -- the lines of its alignment couldn't be written
@@ -335,7 +375,7 @@ module _ {S : Type 0} (split cigar : Bool) (device : Source S) where
         goes_by : (said : Option Alignment) (later : Output) → alignment_of line.text ≡ Ok said → Grown grown (option_map_or (bed_lines split cigar) said []) later → Going old out new later
         goes_by None later says writes =
             goes_with g.past [] later (passes_none g.fed.passes (sam_reader new) gives kept refl refl gives.goes says refl) (sym (append-nil (lines_of (member_items g.past)))) writes
-        goes_by (Some a) later says writes = grind (arith, goes_with, (with_it a says), (map-append (λ m. m.item) g.past (member_on line a ∷ [])), (pushed a))
+        goes_by (Some a) later says writes = goes_with (g.past ++ member_on line a ∷ []) (bed_lines split cigar a) later (with_it a says) (ap lines_of (map-append (λ m. m.item) g.past (member_on line a ∷ [])) ∙ pushed a) writes
 
         -- what it says was written
         pub going_line : {converting after : Converting} → converting.split ≡ split → converting.with_cigar ≡ cigar → {later : Output} → ((said : Option Alignment) × (alignment_of line.text ≡ Ok said) × Grown grown (option_map_or (bed_lines converting.split converting.with_cigar) said []) later × (after ≡ converting)) → Going old out new later
@@ -358,7 +398,7 @@ pub record IsFreshReader {S : Type 0} (device : Source S) (first : S) (reader : 
   pub sound : IsSound device reader
 
 module _ {S : Type 0} (split cigar : Bool) {device : Source S} {first : S} {reader : LineReader S} (fresh_reader : IsFreshReader device first reader) where
-  starts_reader : BeginsAt device.left sam_format First first (sam_reader reader)
+  starts_reader : BeginsAt sam_format First first (sam_reader reader)
   starts_reader = begins_over device (sam_reader reader) refl fresh_reader.taken fresh_reader.fed fresh_reader.source fresh_reader.input fresh_reader.going fresh_reader.untold fresh_reader.lines (λ going. good_at_first device (sam_reader reader) going refl)
 
   more_lines : (past more : List Alignment) → ⊤ → (rest : List ℕ) × (alignment_lines split cigar (past ++ more) ≡ alignment_lines split cigar past ++ rest)
@@ -368,19 +408,20 @@ module _ {S : Type 0} (split cigar : Bool) {device : Source S} {first : S} {read
     abbrev Writes : Option FaultValue → Type 0
     Writes fault = WritesBy device device (of_members (IsOneOf is_sam_kind) (alignments_written split cigar) sam_format) first None out fault last None grown
 
-    driven : IsDriven (alignments_written split cigar) (λ past. ⊤) device sam_format (sam_reader reader) first new last
-    driven = record { stays = more_lines; begins = more_lines; taken = λ text. tt; starts = starts_reader; ended = ended }
+    module _ (kept : IsKeptBelow new new.below) where
+      driven : IsDriven (alignments_written split cigar) (λ past. ⊤) sam_format (sam_reader reader) first new last
+      driven = record { stays = more_lines; begins = more_lines; taken = λ text. tt; starts = starts_reader; ended = ended; kept = kept }
 
-    -- all of the input was read
-    pub writes_all : FeedsAll (alignment_lines converting.split converting.with_cigar) (IsOneOf is_sam_kind) (λ past. ⊤) device (λ past. ⊤) (sam_reader reader) out new grown → Writes None
-    writes_all fed =
-        let is = subst (λ (m : Converting). FeedsAll (alignment_lines m.split m.with_cigar) (IsOneOf is_sam_kind) (λ past. ⊤) device (λ past. ⊤) (sam_reader reader) out new grown) same fed in
-        drives_all driven (IsOneOf is_sam_kind) (λ past. ⊤) out is (goes_same grown) [] (sym (append-nil _)) (Appends-nil grown.put) refl
+      -- all of the input was read
+      pub writes_all : FeedsAll (alignment_lines converting.split converting.with_cigar) (IsOneOf is_sam_kind) (λ past. ⊤) device (λ past. ⊤) (sam_reader reader) out new grown → Writes None
+      writes_all fed =
+          let is = subst (λ (m : Converting). FeedsAll (alignment_lines m.split m.with_cigar) (IsOneOf is_sam_kind) (λ past. ⊤) device (λ past. ⊤) (sam_reader reader) out new grown) same fed in
+          drives_all device driven (IsOneOf is_sam_kind) (λ past. ⊤) out is (goes_same grown) [] (sym (append-nil _)) (Appends-nil grown.put) refl
 
-    -- or it was read up to a fault
-    pub writes_up_to : {fault : FaultValue} → FeedsUpTo (alignment_lines converting.split converting.with_cigar) (IsOneOf is_sam_kind) (λ past. ⊤) device (sam_reader reader) out fault new grown → Writes (Some fault)
-    writes_up_to {fault} fed =
-        drives_fault driven (IsOneOf is_sam_kind) (λ past. ⊤) out fault grown (subst (λ (m : Converting). FeedsUpTo (alignment_lines m.split m.with_cigar) (IsOneOf is_sam_kind) (λ past. ⊤) device (sam_reader reader) out fault new grown) same fed)
+      -- or it was read up to a fault
+      pub writes_up_to : {fault : FaultValue} → FeedsUpTo (alignment_lines converting.split converting.with_cigar) (IsOneOf is_sam_kind) (λ past. ⊤) device (sam_reader reader) out fault new grown → Writes (Some fault)
+      writes_up_to {fault} fed =
+          drives_fault device driven (IsOneOf is_sam_kind) (λ past. ⊤) out (subst (λ (m : Converting). FeedsUpTo (alignment_lines m.split m.with_cigar) (IsOneOf is_sam_kind) (λ past. ⊤) device (sam_reader reader) out fault new grown) same fed)
 
     -- a failed read that is reported is of a read that failed then
     pub own_up_to : IsKeptBelow new new.below → {fault : FaultValue} → FeedsUpTo (alignment_lines converting.split converting.with_cigar) (IsOneOf is_sam_kind) (λ past. ⊤) device (sam_reader reader) out fault new grown
@@ -453,7 +494,7 @@ module _ {order : Order} (total : IsTotal order) where
     written = alone_writes device device (of_records order (merge_written order d strand))
         (λ one two. ap (λ m. members_report (merge_as_they_come m) (bed_format (sorting_of order)) one) begun ∙ (grind (arith, report_same, placed_good)))
         (λ two lines. ap (λ m. members_settle (merge_as_they_come m) (bed_format (sorting_of order)) lines) begun ∙ (grind (arith, settled_same, placed_lines)))
-        (λ lines. refl) None (λ t tells. tells) runs.written;
+        (λ lines. refl) None (λ t read tells. tells) runs.written;
     reads = runs.reads;
     own_failure = runs.own_failure;
   }

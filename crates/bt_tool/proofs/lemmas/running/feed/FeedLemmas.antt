@@ -18,7 +18,7 @@ use Rattle.bt_bed.specs.model.Sorted.{sorting_of, Locus}
 use Rattle.bt_bed.proofs.lemmas.read.batch.RecordsLemmas.{wrong_of_bed}
 use Rattle.bt_bed.proofs.lemmas.order.OrderLemmas.{placed_prefix}
 use Rattle.bt_bed.specs.model.Order.{Order}
-use Rattle.bt_bed.specs.calls.Reading.{MemberReader, good_coming, members_from}
+use Rattle.bt_bed.specs.calls.Reading.{MemberReader, coming, members_from}
 use Rattle.bt_bed.specs.calls.Records.{below, last_locus, order_in, view_of}
 use Rattle.bt_bed.specs.declared.order.ChromOrder.{Ghosts}
 use Rattle.bt_bed.specs.declared.read.records.Records.{Records}
@@ -101,29 +101,46 @@ module _ {S A State : Type 0} {settled : List A → List ℕ} {device : Source S
 
   module _ {Kinds : Kind → Type 0} {Sorted : List A → Type 0} where
     -- these members were taken when the reading stops
-    taken : (bytes : List ℕ) × Hands device now.below bytes new.below → Sorted (member_items past) → IsReadFor device old past past new → Took settled Kinds Sorted device old out past new grown
-    taken hands sorted read = grind (arith, (bytes_more device old past now g.passes new hands), (took_lines out grown (settled (member_items past)) g.put))
+    abbrev taken : (hands : (bytes : List ℕ) × Hands device now.below bytes new.below) → Sorted (member_items past) → IsReadFor device old (g.passes.bytes.0 ++ hands.0) past past new → Took settled Kinds Sorted device old out past new grown
+    taken hands sorted read = record {
+      bytes = bytes_more device old past now g.passes new hands;
+      sorted = sorted;
+      grows = g.put.grows;
+      before = past;
+      read = read;
+      kept = took_lines out grown (settled (member_items past)) g.put;
+    }
 
     -- the reading stops: at the end of the input
     pub fed_all : {Stands : List A → Type 0} → IsOver device now new → Sorted (member_items past) → Stands (member_items past) → FeedsAll settled Kinds Sorted device Stands old out new grown
-    fed_all over sorted stands = grind (arith, (taken over.ends.stays.bytes sorted (read_here device old past new (passes_end device old past now g.passes new over))), (passes_all device old past now g.passes new over))
+    unfolding passes_end
+    fed_all over sorted stands = record {
+      past = past;
+      took = taken over.ends.stays.bytes sorted (read_here device old past new (passes_end device old past now g.passes new over));
+      whole = passes_all device old past now g.passes new over;
+      stands = stands;
+      puts = g.put.puts;
+      works = g.put.works;
+      served = over.ends.served ∙ g.passes.served;
+      clear = over.ends.below_goes;
+      within = (over.kept g.passes.kept).within over.ends.below_goes;
+    }
 
     -- or at a fault
     pub fed_up_to : {fault : FaultValue} → ((state : State) (line : TextLine) (kind : Kind) → old.format.says state line ≡ Err kind → Kinds kind) → IsStopped device now fault new → Sorted (member_items past)
         → FeedsUpTo settled Kinds Sorted device old out fault new grown
-    unfolding taken
     fed_up_to {fault} of_format stopped sorted =
         record {
           past = past;
           took = taken stopped.answers.stays.bytes sorted (read_at_stop device old past now g.passes new fault stopped);
-          begins = begins_with (good_coming device.left old) (good_coming device.left now) past g.passes.come;
+          begins = (read_at_stop device old past now g.passes new fault stopped).begins;
           cause = inl (record { cause = (passes_stop device old past now g.passes Kinds of_format new fault stopped).cause; puts = g.put.puts; works = g.put.works });
           exact = λ other. g.put.puts;
         }
 
 -- members were taken, what those before the last one settle was written, and the last one failed
 module _ {S A State : Type 0} {settled : List A → List ℕ} {Kinds : Kind → Type 0} {Sorted : List A → Type 0} {device : Source S} {old : MemberReader S A State} {out : Output}
-    {before given : List (Member A)} (a : A) (items : member_items given ≡ member_items before ++ a ∷ []) {new : MemberReader S A State} (passes : PassesMembers device old given new) (read : IsReadFor device old before given new)
+    {before given : List (Member A)} (a : A) (items : member_items given ≡ member_items before ++ a ∷ []) {new : MemberReader S A State} (passes : PassesMembers device old given new) (read : IsReadFor device old passes.bytes.0 before given new)
     {through : Output} (put : HasPut out (settled (member_items before)) through) (sorted : Sorted (member_items before ++ a ∷ [])) {fault : FaultValue} {later : Output} (lines : List ℕ)
     (more : settled (member_items before ++ a ∷ []) ≡ settled (member_items before) ++ lines) where
   -- what is settled with it couldn't be written
@@ -139,7 +156,7 @@ module _ {S A State : Type 0} {settled : List A → List ℕ} {Kinds : Kind → 
       read = read_alone read;
       kept = took_later out through later (settled (member_items before)) put.grows (goes_failed through later grows fails) (took_lines out through (settled (member_items before)) put);
     };
-    begins = begins_with (good_coming device.left old) (good_coming device.left new) given passes.come;
+    begins = λ rest follows. begins_with (coming (passes.bytes.0 ++ rest) old) (coming rest new) given (passes.come rest follows);
     cause = inr (record {
       is = is;
       cuts = record {
@@ -156,7 +173,7 @@ module _ {S A State : Type 0} {settled : List A → List ℕ} {Kinds : Kind → 
   pub fails_growing : fault ≡ no_memory → Appends through.put later.put lines → WorksAsBefore through later → Grows through.took later.took → FeedsUpTo settled Kinds Sorted device old out fault new later
   fails_growing is appends works grows =
       let now : HasPut out (settled (member_items given)) later = record {
-        puts = λ bytes e. grind (arith, append_assoc);
+        puts = λ bytes e. text_grows through.put later.put bytes (settled (member_items before)) lines (settled (member_items given)) (ap settled items ∙ more) appends (put.puts bytes e);
         works = grind (arith, (grows_both out.put through.put later.put put.works.put works.put));
         block = works.block put.block;
         grows = grows_both out.took through.took later.took put.grows grows;
@@ -171,7 +188,7 @@ module _ {S A State : Type 0} {settled : List A → List ℕ} {Kinds : Kind → 
           read = read_here device old given new passes;
           kept = took_lines out later (settled (member_items given)) now;
         };
-        begins = begins_with (good_coming device.left old) (good_coming device.left new) given passes.come;
+        begins = λ rest follows. begins_with (coming (passes.bytes.0 ++ rest) old) (coming rest new) given (passes.come rest follows);
         cause = inl (record { cause = inr (record { is = is; served = passes.served }); puts = now.puts; works = now.works });
         exact = λ other. now.puts;
       }
@@ -250,7 +267,7 @@ module _ {S O E : Type 0} {ghosts : Ghosts O} {definition : EngineDef E} {first 
     -- after the last record
     pub feeds_all : (new : Records S O ghosts) → IsOver device (view_of now) (view_of new)
         → FeedsAll (definition.settled first) (IsBedKind (order_in old)) (AreInOrder (order_in old)) device (λ past. definition.is_after first past engine) (view_of old) out (view_of new) grown
-    feeds_all new over = grind (arith, fed_all, said_in_order)
+    feeds_all new over = fed_all g.fed over (in_order g.past (view_of now) g.fed.passes) g.stands
 
     -- the reader reported a fault
     pub stops_reading : (new : Records S O ghosts) (fault : FaultValue) → IsStopped device (view_of now) fault (view_of new) → StopsUpTo fault new grown
@@ -295,7 +312,7 @@ module _ {S O E : Type 0} {ghosts : Ghosts O} {definition : EngineDef E} {first 
       given_items : member_items given ≡ member_items before ++ f.r ∷ []
       given_items = items_take g.past from (records ++ f.r ∷ []) ∙ sym (append_assoc (member_items g.past) records (f.r ∷ [])) ∙ ap (λ (l : List Feature). l ++ f.r ∷ []) (sym before_items)
 
-      passes : PassesMembers device (view_of old) given (view_of new)
+      abbrev passes : PassesMembers device (view_of old) given (view_of new)
       passes = passes_take device (view_of old) g.past (view_of now) g.fed.passes (records ++ f.r ∷ []) (view_of new) has
 
       sorted_given : AreInOrder (order_in old) (member_items before ++ f.r ∷ [])
@@ -307,13 +324,18 @@ module _ {S O E : Type 0} {ghosts : Ghosts O} {definition : EngineDef E} {first 
           (at_each (order_in old) takes (member_items g.past) records engine f.mid grown f.through
           (subst (AreInOrder (order_in old)) before_items (order_front (order_in old) (member_items before) (f.r ∷ []) sorted_given)) at_now f.takes.taken)
 
-      read : IsReadFor device (view_of old) before given (view_of new)
+      read : IsReadFor device (view_of old) g.fed.passes.bytes.0 before given (view_of new)
       read = read_before device (view_of old) g.past (view_of now) g.fed.passes records f.r (view_of new) has
 
       not_taken : definition.takes first (member_items before ++ f.r ∷ []) → definition.fault f.mid ≡ None → Grows (f.through).took later.took → NotTaken definition f.mid f.r f.through (fault_value fault) fed later → StopsUpTo (fault_value fault) new later
+      unfolding passes_take
       not_taken may going grows (inl again) = absurd (let apart : None ≡ Some (fault_value fault) = sym going ∙ again.is in cc)
-      not_taken may going grows (inr (inl fails)) = grind (arith, at_mid, fails_writing, given_items, passes, read, sorted_given)
-      not_taken may going grows (inr (inr out_of)) = grind (arith, at_mid, fails_growing, given_items, passes, read, sorted_given)
+      not_taken may going grows (inr (inl fails)) = 
+          let cuts = fails.cuts first (member_items before) at_mid.stands may in
+          fails_writing f.r given_items passes read at_mid.put sorted_given cuts.bytes cuts.goes_on fails.is cuts.front fails.failed fails.sink_failed grows
+      not_taken may going grows (inr (inr out_of)) = 
+          let puts = out_of.puts first (member_items before) at_mid.stands may in
+          fails_growing f.r given_items passes read at_mid.put sorted_given puts.bytes puts.goes_on out_of.is puts.appends out_of.works grows
 
       pub stops_feeding : StopsUpTo (fault_value fault) new later
       stops_feeding =

@@ -1,5 +1,5 @@
 -- Lemmas on lines and records that were given to a masking engine together, over two readers.
-use Rattle.bt_lines.proofs.Std.{◌≡◌, ℕ, suc, true, false, false≢true, List, [], ◌∷◌, ◌++◌, length, Option, None, Some, Err, refl, sym, ap, ◌∙◌, subst, append-nil, option_to_list, arith, nil_from_length}
+use Rattle.bt_lines.proofs.Std.{◌⊎◌, inl, inr, IsTrue, ◌≡◌, ℕ, suc, true, false, false≢true, List, [], ◌∷◌, ◌++◌, length, Option, None, Some, Err, refl, sym, ap, ◌∙◌, subst, append-nil, option_to_list, arith, nil_from_length}
 use Rattle.bt_lines.specs.declared.device.Source.{Ghosts as Source}
 use Rattle.bt_lines.specs.model.Fault.{FaultValue, read_failed}
 use Rattle.bt_lines.specs.calls.Faults.{no_memory}
@@ -27,11 +27,11 @@ use Rattle.bt_seq.specs.model.Fasta.{Reached, SequenceLine, sequence_says, seque
 use Rattle.bt_tool.specs.inside.Feed.{member_items, HasTaken}
 use Rattle.bt_tool.specs.model.TwoInputs.{is_fasta_kind}
 use Rattle.bt_tool.specs.declared.loops.masking.MaskRun.{MaskRun}
-use Rattle.bt_tool.specs.inside.MaskLoop.{Masks, begun_pair, mask_join, line_members, nothing_reached}
+use Rattle.bt_tool.specs.inside.MaskLoop.{Masks, leaves_some_line, begun_pair, mask_join, line_members, nothing_reached}
 use Rattle.bt_tool.proofs.lemmas.running.mask.MaskedLemmas.{MaskEnds, asked, asks_for, come_so_far, ends_at, reached_behind, wrong_first}
-use Rattle.bt_tool.specs.inside.Pair.{IsKnown, JoinDef, Pair, SettlesPair, item_ahead}
+use Rattle.bt_tool.specs.inside.Pair.{AsksFor, JoinDef, Pair, SettlesPair, item_ahead}
 use Rattle.bt_tool.proofs.lemmas.running.pair.PairTurns.{TakesFurther}
-use Rattle.bt_tool.proofs.lemmas.running.members.BlockMembers.{has_taken, known_members, passes_known, refused, refuses, refuses_read, say_count}
+use Rattle.bt_tool.proofs.lemmas.running.members.BlockMembers.{has_taken, known_bytes, known_members, passes_known, refused, refuses, refuses_read, say_count}
 use Rattle.bt_tool.proofs.lemmas.running.mask.MaskFacts.{asked_of, ahead_first, first_of, settles_given}
 use Rattle.bt_tool.proofs.lemmas.running.members.MemberLemmas.{items_from, state_more}
 use Rattle.bt_tool.proofs.lemmas.running.pair.PairStops as stop
@@ -43,6 +43,11 @@ told_no_read kind number fault of_text is input line e =
     let same : fault ≡ read_failed input line = cc in
     let kinds : ReadFailed ≡ kind = sym (ap (λ (f : FaultValue). f.kind) same) ∙ ap (λ (f : FaultValue). f.kind) is in
     false≢true (ap is_fasta_kind kinds ∙ of_text)
+
+-- more lines leave one undecided too
+asked_more : (lines extra : List SequenceLine) (records : List Feature) → (records ≡ []) ⊎ IsTrue (leaves_some_line lines records) → (records ≡ []) ⊎ IsTrue (leaves_some_line (lines ++ extra) records)
+asked_more lines extra records (inl none) = inl none
+asked_more lines extra records (inr some) = inr (asked_of lines extra records some)
 
 alone : {A : Type 0} (items : List A) (o : Option A) → o ≡ None → items ++ option_to_list o ≡ items
 alone items o none = ap (λ o. items ++ option_to_list o) none ∙ append-nil items
@@ -79,10 +84,10 @@ module _ {A B : Type 0} {source_a : Source A} {source_b : Source B} {start : Mas
   ended_second : stage.inputs.second_ended ≡ true → (more_second ≡ []) × (second_now.buffered ≡ [])
   ended_second e = let none = none_more e in (ap (members_from (suc (lines_given second.below))) none.0, none.1)
 
-  settled_now : IsKnown both → SettlesPair rule stage.inputs.written s.comes.bytes (stage.inputs.taken ++ option_to_list (first_of (taken ++ second_now.buffered))) stage.inputs.second_ended
-  settled_now known = grind arith
+  settled_now : SettlesPair rule stage.inputs.written s.comes.bytes (stage.inputs.taken ++ option_to_list (first_of (taken ++ second_now.buffered))) stage.inputs.second_ended
+  settled_now = grind arith
 
-  takes_second : TakesFurther source_b (view_of start.records) s.past_second more_second second second_now
+  takes_second : TakesFurther source_b (view_of start.records) s.comes.second_passes.bytes.0 s.past_second more_second second second_now
   takes_second = turned.takes_further source_b (view_of start.records) s.past_second second s.comes.second_passes taken second_now has
 
   -- some lines and these records led to a stage, and the record ahead is the next one
@@ -107,10 +112,10 @@ module _ {A B : Type 0} {source_a : Source A} {source_b : Source B} {start : Mas
     taken_now : final.inputs.taken ≡ stage.inputs.taken ++ member_items more_second
     taken_now = goes.follows.taken_is ∙ ap (λ l. stage.inputs.taken ++ l) (sym (items_from (suc (lines_given second.below)) taken))
 
-    pub settled : IsKnown both → SettlesPair rule final.inputs.written (s.comes.bytes ++ bytes) (final.inputs.taken ++ option_to_list (item_ahead second_now)) stage.inputs.second_ended
-    settled known =
+    pub settled : SettlesPair rule final.inputs.written (s.comes.bytes ++ bytes) (final.inputs.taken ++ option_to_list (item_ahead second_now)) stage.inputs.second_ended
+    settled =
         rw (goes.follows.written_is, goes.follows.taken_is, ahead_first second_now)
-        (settles_given start.mask.how start.mask.full (settled_now known) goes none_more (λ r e. sym (ahead_first second_now) ∙ kept r e))
+        (settles_given start.mask.how start.mask.full settled_now goes none_more (λ r e. sym (ahead_first second_now) ∙ kept r e))
 
     -- they were taken, and no more
     module _ (more : List TextLine) (parts : buffered_in lines ≡ texts ++ more) (numbered : AreNumbered (suc (lines_given lines)) texts) (are : TakenLines lines consumed (length texts)) where
@@ -120,11 +125,11 @@ module _ {A B : Type 0} {source_a : Source A} {source_b : Source B} {start : Mas
       has_first : HasTaken source_a (known_members source_a start.mask.full at items lines) items first_now
       has_first = has_taken source_a start.mask.full at lines new s.comes.first_passes.clear texts more items say_here parts numbered consumed (length texts) are takes (say_count start.mask.full at texts items say_here)
 
-      takes_first : TakesFurther source_a old_first s.past_first more_first (line_members start.mask.full at lines) first_now
+      takes_first : TakesFurther source_a old_first s.comes.first_passes.bytes.0 s.past_first more_first (line_members start.mask.full at lines) first_now
       takes_first =
           let known = passes_known source_a start.mask.full at lines new s.comes.first_passes.clear texts more items say_here parts numbered consumed (length texts) are takes (say_count start.mask.full at texts items say_here) old_first s.past_first s.comes.first_passes in
           let t = turned.takes_further source_a old_first s.past_first (known_members source_a start.mask.full at items lines) known items first_now has_first in
-          record { passes = t.passes; last = t.last; source = t.source; told = t.told }
+          record { passes = t.passes; same = t.same ∙ known_bytes source_a start.mask.full at lines new s.comes.first_passes.clear texts more items say_here parts numbered consumed (length texts) are takes (say_count start.mask.full at texts items say_here) old_first s.past_first s.comes.first_passes; last = t.last; told = t.told }
 
       ended_first : stage.inputs.first_ended ≡ true → (more_first ≡ []) × (first_now.buffered ≡ [])
       ended_first e =
@@ -146,7 +151,7 @@ module _ {A B : Type 0} {source_a : Source A} {source_b : Source B} {start : Mas
           full_is = stands.full_is;
           comes = turned.goes_on s.comes takes_first takes_second ended_first ended_second
               (record { given_is = given_now; written_is = goes.follows.written_is; taken_is = taken_now; first_is = goes.follows.first_is; second_is = goes.follows.second_is })
-              bytes now (λ known. rw goes.follows.second_is (settled known)) puts;
+              bytes now (rw goes.follows.second_is settled) puts;
           kept_ahead = kept;
           lines_over = λ e. takes.ended_is ∙ s.lines_over (sym goes.follows.first_is ∙ e);
         },
@@ -156,17 +161,20 @@ module _ {A B : Type 0} {source_a : Source A} {source_b : Source B} {start : Mas
       -- what is settled wasn't all written
       pub fails_write : {puts rest : List ℕ} → bytes ≡ puts ++ rest → {through now : Output} {fault : FaultValue} → Grown grown puts through → FailsToAdd through rest fault now → EndsAt (Some fault) new second_now now
       fails_write is adds fails =
-          ends_at s (state_behind (sequence_format start.mask.full) at items) (stop.fails_to_write s.comes (asks_for s) (λ known. tt) more_first more_second takes_first takes_second
-          (option_to_list final.inputs.waiting) given_now (λ known. tt) ended_second (λ known. rw (← taken_now, ← is) (settled known)) adds fails)
+          ends_at s (state_behind (sequence_format start.mask.full) at items) (stop.fails_to_write s.comes (asks_for s) tt more_first more_second takes_first takes_second
+          (option_to_list final.inputs.waiting) given_now tt ended_second (rw (← taken_now, ← is) settled) adds fails)
 
       -- memory ran out after others were written
       pub lacks_room : (mid : Stage SequenceLine Feature) {newly : List SequenceLine} → Follows stage.inputs (member_items more_first) newly (member_items more_second) mid → {put : List ℕ} {now : Output}
-          → (IsKnown both → SettlesPair rule mid.written (s.comes.bytes ++ put) (mid.taken ++ option_to_list (item_ahead second_now)) mid.second_ended) → Grown grown put now → {fault : FaultValue} → fault ≡ no_memory
+          → (SettlesPair rule mid.written (s.comes.bytes ++ put) (mid.taken ++ option_to_list (item_ahead second_now)) mid.second_ended) → Grown grown put now → {fault : FaultValue} → fault ≡ no_memory
           → EndsAt (Some fault) new second_now now
       lacks_room mid follows {put} {now} settles adds {fault} is =
-          ends_at s (state_behind (sequence_format start.mask.full) at items) (stop.lacks_memory (turned.goes_on s.comes takes_first takes_second ended_first ended_second follows put now settles adds)
-          (λ e. stop.asks_then s.comes (asked s (sym follows.first_is ∙ e)) (λ extra asks. grind (arith, asked_of)) more_first more_second second_now takes_second)
-          (λ known. tt) fault is)
+          let later = turned.goes_on s.comes takes_first takes_second ended_first ended_second follows put now settles adds in
+          let bytes = (turned.goes_bytes s.comes takes_first takes_second ended_first ended_second follows put now settles adds).1 in
+          ends_at s (state_behind (sequence_format start.mask.full) at items) (stop.lacks_memory later
+          (λ e. subst (λ b. AsksFor rule both before later.first_passes.bytes.0 b (s.past_first ++ more_first) second_now) (sym bytes)
+          (stop.asks_then s.comes (asked s (sym follows.first_is ∙ e)) (λ extra asks. asked_more (given stage.inputs) extra stage.inputs.taken asks) more_first more_second second_now takes_second))
+          tt fault is)
 
     -- they were taken, and one more line, which is at fault
     module _ (line : TextLine) (more : List TextLine) (parts : buffered_in lines ≡ (texts ++ line ∷ []) ++ more) (numbered : AreNumbered (suc (lines_given lines)) (texts ++ line ∷ [])) (are : TakenLines lines consumed (length (texts ++ line ∷ [])))
@@ -189,11 +197,11 @@ module _ {A B : Type 0} {source_a : Source A} {source_b : Source B} {start : Mas
           let gone = refused source_a start.mask.full old_first s.past_first at lines new s.comes.first_passes texts line more items say_here kind says_now parts numbered consumed are takes fault is_now in (
             gone,
             refl,
-            stop.first_fails s.comes (asks_for s) (λ known. tt) going more_first takes_second ended_second
-                (λ known. rw (← (sym (alone final.inputs.written final.inputs.waiting none) ∙ given_now), ← taken_now) (settled known)) (λ known. tt)
-                (stop.asks_then s.comes (asked s going) (λ extra asks. grind (arith, asked_of)) more_first more_second second_now takes_second)
+            stop.first_fails s.comes (asks_for s) tt going more_first takes_second ended_second
+                (rw (← (sym (alone final.inputs.written final.inputs.waiting none) ∙ given_now), ← taken_now) settled) tt
                 (refuses source_a start.mask.full old_first s.past_first at lines new s.comes.first_passes texts line more items say_here kind says_now parts numbered consumed are takes fault is_now (λ k. is_fasta_kind k ≡ true)
                 (wrong_first start.mask.full (reached final) line kind says))
+                (stop.asks_then s.comes (asked s going) (λ extra asks. asked_more (given stage.inputs) extra stage.inputs.taken asks) more_first more_second second_now takes_second)
                 (refuses_read source_a start.mask.full old_first s.past_first at lines new s.comes.first_passes texts line more items say_here kind says_now parts numbered consumed are takes fault is_now) adds,
             λ input number e. absurd (told_no_read kind line.number fault (wrong_first start.mask.full (reached final) line kind says) is input number e),
           )

@@ -1,9 +1,9 @@
 -- Lemmas on a round of masking in which lines and records were given together.
-use Rattle.bt_lines.proofs.Std.{◌≡◌, ℕ, zero, suc, ◌-◌, length-take, ◌+◌, ◌≤◌, ◌<◌, Bool, true, false, List, [], ◌∷◌, ◌++◌, length, take, Option, None, Some, Result, Ok, Err, refl, sym, ap, ◌∙◌, subst, append-nil, append_assoc, option_to_list, arith, inl, inr, append_cancel_left, nil_from_length, ◌⊎◌, OnOk, is_some}
+use Rattle.bt_lines.proofs.Std.{false≢true, ◌≡◌, ℕ, zero, suc, ◌-◌, length-take, ◌+◌, ◌≤◌, ◌<◌, Bool, true, false, List, [], ◌∷◌, ◌++◌, length, take, Option, None, Some, Result, Ok, Err, refl, sym, ap, ◌∙◌, subst, append-nil, append_assoc, option_to_list, arith, inl, inr, append_cancel_left, nil_from_length, ◌⊎◌, OnOk, is_some}
 use Rattle.bt_lines.specs.declared.device.Source.{Ghosts as Source}
 use Rattle.bt_lines.proofs.lemmas.reader.block.BufferLemmas.{fed_none}
 use Rattle.bt_lines.proofs.lemmas.reader.lines.TextLemmas.{bytes_in-lines, whole_count}
-use Rattle.bt_lines.specs.calls.Reader.{BeginsLines, buffered_lines, lines_in, TakenLines, TakesLines, buffered_bytes, buffered_in, has_ended, is_open, lines_given}
+use Rattle.bt_lines.specs.calls.Reader.{BeginsLines, buffered_lines, room as line_room, lines_in, TakenLines, TakesLines, buffered_bytes, buffered_in, has_ended, is_open, lines_given}
 use Rattle.bt_lines.specs.model.Fault.{FaultValue}
 use Rattle.bt_lines.specs.calls.Faults.{no_memory}
 use Rattle.bt_lines.specs.model.Lines.{TextLine}
@@ -24,7 +24,7 @@ use Rattle.bt_bed.specs.declared.read.batch.Batch.{Batch}
 use Rattle.bt_seq.proofs.lemmas.mask.steps.BedStepLemmas.{goes_more, line_goes}
 use Rattle.bt_seq.proofs.lemmas.mask.steps.CopyLemmas.{wants_line}
 use Rattle.bt_bed.specs.calls.Stage.{Stage, given, with_first}
-use Rattle.bt_seq.specs.calls.MaskStage.{GoesOn, MayComeNext, MaskStage, is_written_at_once, want_at, with_line}
+use Rattle.bt_seq.specs.calls.MaskStage.{GoesOn, MayComeNext, MaskStage, is_written_at_once, mask_want_of, want_at, with_line}
 use Rattle.bt_seq.specs.calls.MaskState.{Masking}
 use Rattle.bt_seq.specs.calls.MaskSteps.{BothCome, ComesAfter, GivesAhead, FailsAfter, FailsAtLines, FailsAtRecord, HasCome, StopsAt, MaskStandsAt, FailsWithLine, RefusesLine, bytes_with}
 use Rattle.bt_seq.specs.model.Fasta.{Reached, SequenceLine}
@@ -55,6 +55,31 @@ module _ {S State : Type 0} (second second_now : MemberReader S Feature State) (
 
 pub waits_is : {stage : MaskStage} {mask : Masking} → MaskStandsAt stage mask → is_some mask.waiting ≡ is_some stage.inputs.waiting
 waits_is {stage} {mask} stands = ap is_some stands.waiting_is ∙ (grind arith)
+
+rounds_most : (waits : Bool) (want : MaskWant) → mask_rounds waits want ≤ 3
+rounds_most waits want = grind arith
+
+rounds_as : (was waits lines_ended bed_ended : Bool) → (was ≡ false → waits ≡ false)
+    → (mask_rounds waits (mask_want_of waits lines_ended bed_ended) ≤ mask_rounds was (mask_want_of was lines_ended bed_ended))
+    × ((mask_rounds waits (mask_want_of waits lines_ended bed_ended) < mask_rounds was (mask_want_of was lines_ended bed_ended)) ⊎ (mask_want_of waits lines_ended bed_ended ≡ mask_want_of was lines_ended bed_ended))
+rounds_as false false lines_ended bed_ended h = (omega arith, inr refl)
+rounds_as false true lines_ended bed_ended h = absurd (false≢true (sym (h refl)))
+rounds_as true true lines_ended bed_ended h = (omega arith, inr refl)
+rounds_as true false false bed_ended h = (omega arith, inl (omega arith))
+rounds_as true false true false h = (omega arith, inl (omega arith))
+rounds_as true false true true h = (omega arith, inl (omega arith))
+
+none_some : {A : Type 0} (o : Option A) → is_some o ≡ false → o ≡ None
+none_some None e = refl
+none_some (Some x) e = cc
+
+-- no more rounds are wanted than before, and fewer unless the same is wanted
+rounds_fall : {stage final : MaskStage} {mask masked : Masking} → MaskStandsAt stage mask → MaskStandsAt final masked → final.inputs.first_ended ≡ stage.inputs.first_ended → final.inputs.second_ended ≡ stage.inputs.second_ended
+    → (stage.inputs.waiting ≡ None → final.inputs.waiting ≡ None) → (mask_rounds (is_some masked.waiting) masked.want ≤ mask_rounds (is_some mask.waiting) mask.want)
+    × ((mask_rounds (is_some masked.waiting) masked.want < mask_rounds (is_some mask.waiting) mask.want) ⊎ (masked.want ≡ mask.want))
+rounds_fall {stage} {final} {mask} {masked} was is first second none =
+    rw (waits_is was, waits_is is, was.want_is, is.want_is, first, second)
+    (rounds_as (is_some stage.inputs.waiting) (is_some final.inputs.waiting) stage.inputs.first_ended stage.inputs.second_ended (λ e. ap is_some (none (none_some stage.inputs.waiting e))))
 
 pub rounds_few : (waits : Bool) (want : MaskWant) → waits ≡ false → mask_rounds waits want ≤ 2
 rounds_few waits want e = grind arith
@@ -102,13 +127,28 @@ module _ {A B : Type 0} {source_a : Source A} {source_b : Source B} {start : Mas
     stuck : texts ≡ [] → taken ≡ [] → masked.want ≡ mask.want → IsMaskReady lines second mask.want → ⊥
     stuck none unread same there = stuck_by mask.want none unread (subst (λ (w : MaskWant). StopsAt batch_cursor w last_lines last_beds) same stops) there
 
-    few_none : texts ≡ [] → taken ≡ [] → (o : Option SequenceLine) → s.stage.inputs.waiting ≡ o → (mask_left new second_now masked ≤ mask_left lines second mask) × (IsMaskReady lines second mask.want → mask_left new second_now masked < mask_left lines second mask)
-    few_none none unread None waits = grind (arith, same_by, stuck)
-    few_none none unread (Some a) waits = grind (arith, stuck)
+    room_lines : line_room new + length texts ≤ line_room lines
+    room_lines = omega (arith, takes.shrinks, takes.taken_is, are.feeds)
+
+    rounds : (s.stage.inputs.waiting ≡ None → final.inputs.waiting ≡ None) → (mask_rounds (is_some masked.waiting) masked.want ≤ mask_rounds (is_some mask.waiting) mask.want)
+        × ((mask_rounds (is_some masked.waiting) masked.want < mask_rounds (is_some mask.waiting) mask.want) ⊎ (masked.want ≡ mask.want))
+    rounds = rounds_fall s.stands comes.stands.stands comes.goes_on.follows.first_is comes.goes_on.follows.second_is
 
     few_by : (n : ℕ) → length texts + length taken ≡ n → (mask_left new second_now masked ≤ mask_left lines second mask) × (IsMaskReady lines second mask.want → mask_left new second_now masked < mask_left lines second mask)
-    few_by zero e = few_none (nil_from_length texts (omega (arith, e))) (nil_from_length taken (omega (arith, e))) s.stage.inputs.waiting refl
-    few_by (suc n) e = grind arith
+    few_by zero e =
+        let none = nil_from_length texts (omega (arith, e)) in
+        let unread = nil_from_length taken (omega (arith, e)) in
+        let fall = rounds (same_by none) in (
+          omega (arith, room_lines, has.takes.shrinks, fall.0),
+          λ there. elim fall.1 [
+            | inl less ↦ omega (arith, room_lines, has.takes.shrinks, less)
+            | inr same ↦ absurd (stuck none unread same there)
+          ],
+        )
+    few_by (suc n) e = (
+      omega (arith, room_lines, has.takes.shrinks, rounds_most (is_some masked.waiting) masked.want, e),
+      λ there. omega (arith, room_lines, has.takes.shrinks, rounds_most (is_some masked.waiting) masked.want, e),
+    )
 
     gave_both : ComesAfter batch_cursor s.stage.ahead first_beds taken final.ahead → {T : Type 0} (done : T) → AdvancesMask source_a source_b start before lines second mask (Ok done) new second_now masked now
     gave_both after done =
@@ -173,8 +213,8 @@ module _ {A B : Type 0} {source_a : Source A} {source_b : Source B} {start : Mas
                 first_is = comes.goes_on.follows.first_is;
                 second_is = comes.goes_on.follows.second_is;
               })
-              (λ known. subst (λ (b : Bool). SettlesPair (mask_join start.mask.how) comes.stage.inputs.written (s.comes.bytes ++ comes.bytes) (comes.stage.inputs.taken ++ option_to_list (item_ahead second_now)) b) (sym comes.goes_on.follows.second_is)
-              (settled s over takes has comes.goes_on kept known)) comes.puts is
+              (subst (λ (b : Bool). SettlesPair (mask_join start.mask.how) comes.stage.inputs.written (s.comes.bytes ++ comes.bytes) (comes.stage.inputs.taken ++ option_to_list (item_ahead second_now)) b) (sym comes.goes_on.follows.second_is)
+              (settled s over takes has comes.goes_on kept)) comes.puts is
 
           fails_one : EndsAt (Some fault) now
           fails_one = elim fails.fails [

@@ -1,5 +1,5 @@
 -- What giving an engine that masks does, by the parts of a run.
-use Rattle.bt_lines.proofs.Std.{rules, ◌≡◌, arith, ℕ, ◌+◌, ◌*◌, ◌<◌, ◌≤◌, Option, Some, Result, Ok, Err, is_some, length, suc, Bool, true, false, not, List, [], ◌∷◌, ◌++◌, None, refl, sym, ap, ◌∙◌, subst, append-nil, append_assoc, option_to_list, inl, inr, IfSome, IsTrue, false≢true, or_right, map-append}
+use Rattle.bt_lines.proofs.Std.{◌⊎◌, rules, ◌≡◌, arith, ℕ, ◌+◌, ◌*◌, ◌<◌, ◌≤◌, Option, Some, Result, Ok, Err, is_some, length, suc, Bool, true, false, not, List, [], ◌∷◌, ◌++◌, None, refl, sym, ap, ◌∙◌, subst, append-nil, append_assoc, option_to_list, inl, inr, IfSome, IsTrue, false≢true, or_right, map-append}
 use Rattle.bt_lines.specs.declared.device.Source.{Ghosts as Source}
 use Rattle.bt_lines.specs.model.Fault.{FaultValue}
 use Rattle.bt_lines.specs.calls.Names.{fault_value}
@@ -10,7 +10,7 @@ use Rattle.bt_lines.specs.declared.reader.line_reader.LineReader.{LineReader}
 use Rattle.bt_bed.specs.model.Feature.{Feature}
 use Rattle.bt_bed.specs.model.BedLine.{fault_at_line}
 use Rattle.bt_bed.specs.model.Sorted.{Locus}
-use Rattle.bt_bed.specs.calls.Reading.{MemberReader, room, ahead_in, first_from, good_coming, state_behind}
+use Rattle.bt_bed.specs.calls.Reading.{MemberReader, room, ahead_in, first_from, coming, state_behind}
 use Rattle.bt_bed.specs.calls.Stage.{given}
 use Rattle.bt_seq.specs.calls.MaskStage.{MaskStage, reached, reached_by, mask_want_of, with_bed_ended, with_lines_ended}
 use Rattle.bt_seq.specs.calls.MaskState.{Masking, left_after}
@@ -19,7 +19,7 @@ use Rattle.bt_seq.specs.model.Fasta.{Reached, SequenceLine, sequence_says, seque
 use Rattle.bt_seq.specs.declared.mask.MaskWant.{MaskWant}
 use Rattle.bt_tool.specs.declared.loops.masking.MaskRun.{MaskRun}
 use Rattle.bt_tool.specs.inside.Feed.{IsKeptBelow, member_items}
-use Rattle.bt_tool.specs.inside.Pair.{PairEnds, IsKnown, JoinDef, Pair, SettlesPair, item_ahead, AsksFor, Comes}
+use Rattle.bt_tool.specs.inside.Pair.{PairEnds, JoinDef, Pair, SettlesPair, item_ahead, AsksFor, Comes}
 use Rattle.bt_tool.specs.inside.MaskLoop.{LoopGoesOn, begun_pair, mask_join, mask_rounds, wanted_by, AreOwned, Masks, leaves_some_line, line_members, nothing_reached}
 use Rattle.bt_tool.specs.inside.Rounds.{IsBuffered}
 use Rattle.std.specs.List.{last_or}
@@ -30,7 +30,7 @@ use Rattle.bt_lines.specs.declared.fault.Kind.TheVariants.{NoSequence}
 use Rattle.bt_bed.specs.calls.Blocks.{view_of}
 use Rattle.bt_bed.specs.model.Good.{Format, Good, Member}
 use Rattle.bt_seq.proofs.lemmas.definitions.MaskPrefixLemmas.{decided_stays, masked_before, first_is_told, lack_none}
-use Rattle.bt_seq.specs.calls.MaskSteps.{FailsAtRecord, MaskMovesTo}
+use Rattle.bt_seq.specs.calls.MaskSteps.{FailsAtRecord, MaskMovesTo, MaskStandsAt}
 use Rattle.bt_bed.specs.calls.Orders.{AreInBlocks}
 use Rattle.bt_seq.proofs.lemmas.mask.steps.CopyLemmas.{last_waits, wants_bed, wants_line}
 use Rattle.bt_seq.proofs.lemmas.mask.steps.AdvanceLemmas.{going}
@@ -88,10 +88,18 @@ last_leaves [] line records e open_at = cc
 last_leaves (x ∷ []) line records e open_at = grind arith
 last_leaves (x ∷ next ∷ lines) line records e open_at = or_right (not (line_decided x records)) (leaves_some_line (next ∷ lines) records) (last_leaves (next ∷ lines) line records e open_at)
 
+-- if records were taken, they leave one of the lines given undecided
+asked_at : {stage : MaskStage} {mask : Masking} → MaskStandsAt stage mask → stage.inputs.first_ended ≡ false → (stage.inputs.taken ≡ []) ⊎ IsTrue (leaves_some_line (given stage.inputs) stage.inputs.taken)
+asked_at stands going = grind (arith, last_leaves)
+
+-- a line that waits isn't decided by what was taken
+undecided_at : {stage : MaskStage} {mask : Masking} → MaskStandsAt stage mask → (line : SequenceLine) → stage.inputs.waiting ≡ Some line → line_decided line stage.inputs.taken ≡ false
+undecided_at {stage} stands line waits = grind (arith, (last_waits stage line waits))
+
 -- the first record without a sequence
-told_by : (names : List (List ℕ)) (good : Option (Good Feature)) (past : List (Member Feature)) (m : Member Feature) (fault : FaultValue) → fault ≡ fault_at_line Second m.line NoSequence
+told_by : (names : List (List ℕ)) (good : Good Feature) (past : List (Member Feature)) (m : Member Feature) (fault : FaultValue) → fault ≡ fault_at_line Second m.line NoSequence
     → is_some (left_after names (member_items past)) ≡ true → left_after names (member_items (past ++ m ∷ [])) ≡ None
-    → IfSome good (λ good. (rest : List (Member Feature)) × (good.members ≡ (past ++ m ∷ []) ++ rest)) → IfSome good (λ good. no_sequence names good.members ≡ Some fault)
+    → (rest : List (Member Feature)) × (good.members ≡ (past ++ m ∷ []) ++ rest) → no_sequence names good.members ≡ Some fault
 told_by names good past m fault is owned unowned begins = grind (arith, append_assoc, first_is_told)
 
 -- a record that was ahead still is
@@ -141,10 +149,10 @@ module _ {A B : Type 0} {source_a : Source A} {source_b : Source B} {start : Mas
   come_so_far = grind (arith, reached_behind)
 
   pub asked : stage.inputs.first_ended ≡ false → join.Asks (given stage.inputs) stage.inputs.taken
-  asked going = grind (arith, last_leaves)
+  asked going_on = asked_at s.stands going_on
 
-  pub asks_for : stage.inputs.first_ended ≡ false → AsksFor join pair before s.past_first second
-  asks_for going = stop.asks_now s.comes (asked going)
+  pub asks_for : stage.inputs.first_ended ≡ false → AsksFor join pair before s.comes.first_passes.bytes.0 s.comes.second_passes.bytes.0 s.past_first second
+  asks_for going_on = stop.asks_now s.comes (asked going_on)
 
   as_it_is : MaskMovesTo mask.how mask.full stage mask
   as_it_is = record { stands = s.stands; how_is = refl; full_is = refl }
@@ -165,7 +173,7 @@ module _ {A B : Type 0} {source_a : Source A} {source_b : Source B} {start : Mas
 
   -- a line that waits isn't decided by what was taken
   undecided : (line : SequenceLine) → stage.inputs.waiting ≡ Some line → line_decided line stage.inputs.taken ≡ false
-  undecided line waits = grind (arith, (last_waits stage line waits))
+  undecided line waits = undecided_at s.stands line waits
 
   -- a line is wanted
   module _ (wants : mask.want ≡ WantLine) where
@@ -189,7 +197,7 @@ module _ {A B : Type 0} {source_a : Source A} {source_b : Source B} {start : Mas
     -- a line couldn't be read
     pub stops_lines : (fault : FaultValue) (new : LineReader A) → GivesFault source_a lines fault new → (IsKept source_a lines → IsKept source_a new) → EndsAt (Some fault) new second grown
     stops_lines fault new gives kept =
-        ends_at at (stop.stops_first s.comes asks_for (λ known. tt) (wrong_first start.mask.full) no_line.0 no_line.1 fault (line_members start.mask.full at new)
+        ends_at at (stop.stops_first s.comes asks_for tt (wrong_first start.mask.full) no_line.0 no_line.1 fault (line_members start.mask.full at new)
         (gives_unread source_a start.mask.full at lines new kept fault gives))
 
   -- a record is wanted, only while they may come
@@ -225,15 +233,15 @@ module _ {A B : Type 0} {source_a : Source A} {source_b : Source B} {start : Mas
       -- the waiting line wasn't written
       pub fails_at_end : (a : SequenceLine) → stage.inputs.waiting ≡ Some a → (fault : FaultValue) (now : Output) → FailsToAdd grown (masked_line mask.how stage.inputs.taken a) fault now → EndsAt (Some fault) lines second_now now
       fails_at_end a waits fault now fails =
-          ends_at at (stop.fails_at_end s.comes asks_for (λ known. tt) waits (asked (s.stands.waits a waits).lines) goes fault second_now now over
+          ends_at at (stop.fails_at_end s.comes asks_for tt waits (asked (s.stands.waits a waits).lines) goes fault second_now now over
           (subst (λ (h : MaskHow). FailsToAdd grown (masked_line h stage.inputs.taken a) fault now) s.how_is fails))
 
     -- the second input couldn't give a record
     stops_by : (o : Option SequenceLine) → stage.inputs.waiting ≡ o → (fault : FaultValue) (second_now : MemberReader B Feature (Option Locus)) → IsStopped source_b second fault second_now → EndsAt (Some fault) lines second_now grown
     stops_by None e fault second_now stopped =
-        ends_at at (stop.stops_behind s.comes asks_for (λ known. tt) (lines_done e) wrong_second goes (none_lacks e) fault second_now stopped)
+        ends_at at (stop.stops_behind s.comes asks_for tt (lines_done e) wrong_second goes (none_lacks e) fault second_now stopped)
     stops_by (Some a) e fault second_now stopped =
-        ends_at at (stop.stops_second s.comes asks_for (λ known. tt) e wrong_second (asked (s.stands.waits a e).lines) goes (λ known none. undecided a e) fault second_now stopped)
+        ends_at at (stop.stops_second s.comes asks_for tt e wrong_second (asked (s.stands.waits a e).lines) goes (λ none. undecided a e) fault second_now stopped)
 
     pub stops_records : (fault : FaultValue) (second_now : MemberReader B Feature (Option Locus)) → IsStopped source_b second fault second_now → EndsAt (Some fault) lines second_now grown
     stops_records fault second_now stopped = stops_by stage.inputs.waiting refl fault second_now stopped
@@ -250,17 +258,16 @@ module _ {A B : Type 0} {source_a : Source A} {source_b : Source B} {start : Mas
     m_ahead = ap (first_from (suc (lines_given second.below))) buffered
 
     -- if it decides the waiting line, that stays as it is
-    settles_decided : (a : SequenceLine) → line_decided a (stage.inputs.taken ++ r ∷ []) ≡ true → IsKnown pair
-        → SettlesPair join (stage.inputs.written ++ a ∷ []) (s.comes.bytes ++ masked_line start.mask.how stage.inputs.taken a) (stage.inputs.taken ++ option_to_list (item_ahead second)) stage.inputs.second_ended
-    settles_decided a decides known =
-        settles_with join stage.inputs.written s.comes.bytes (stage.inputs.taken ++ option_to_list (item_ahead second)) stage.inputs.second_ended a (masked_line start.mask.how stage.inputs.taken a) (s.comes.settles known)
+    settles_decided : (a : SequenceLine) → line_decided a (stage.inputs.taken ++ r ∷ []) ≡ true → SettlesPair join (stage.inputs.written ++ a ∷ []) (s.comes.bytes ++ masked_line start.mask.how stage.inputs.taken a) (stage.inputs.taken ++ option_to_list (item_ahead second)) stage.inputs.second_ended
+    settles_decided a decides =
+        settles_with join stage.inputs.written s.comes.bytes (stage.inputs.taken ++ option_to_list (item_ahead second)) stage.inputs.second_ended a (masked_line start.mask.how stage.inputs.taken a) s.comes.settles
         (stays_before start.mask.how a stage.inputs.taken r (item_ahead second) next decides)
 
     fails_by : (o : Option SequenceLine) → stage.inputs.waiting ≡ o → (fault : FaultValue) (now : Output) → FailsAtRecord start.mask.how start.mask.full o stage r (suc (lines_given second.below)) grown fault now → EndsAt (Some fault) lines second now
     fails_by None none fault now lacks =
         ends_at at (rw lacks.same_output
-        (stop.ends_rest s.comes asks_for (λ known. tt) (lines_done wants none) second
-        (stop.none_low second s.comes.second_passes.going) s.comes.second_passes.bytes s.past_second (Some fault)
+        (stop.ends_rest s.comes asks_for tt (lines_done wants none) second
+        s.comes.second_passes.bytes (stop.no_later s.comes) s.past_second (Some fault)
         (inr (inr (
           fault,
           refl,
@@ -269,15 +276,15 @@ module _ {A B : Type 0} {source_a : Source A} {source_b : Source B} {start : Mas
             kind = NoSequence;
             is = lacks.is;
             of_kind = refl;
-            told = told_by (names_of_sequences stage.inputs.written) (good_coming source_b.left (view_of start.records)) s.past_second m fault lacks.is (owned_alone none) (grind (arith, map-append, append-nil))
-                (stop.seen_begins source_b.left (good_coming source_b.left (view_of start.records)) second s.past_second (Some m) m_ahead s.comes.second_passes.come s.comes.second_passes.ahead);
+            told = λ rest follows. told_by (names_of_sequences stage.inputs.written) (coming (s.comes.second_passes.bytes.0 ++ rest) (view_of start.records)) s.past_second m fault lacks.is (owned_alone none) (grind (arith, map-append, append-nil))
+                (stop.seen_begins (coming (s.comes.second_passes.bytes.0 ++ rest) (view_of start.records)) second rest follows s.past_second (Some m) m_ahead (s.comes.second_passes.come rest follows) s.comes.second_passes.ahead);
             serves = stop.second_serves s.comes;
           },
         )))))
     fails_by (Some a) waits fault now (inl writes) =
-        ends_at at (stop.fails_waiting s.comes asks_for (λ known. tt) a waits (masked_line start.mask.how stage.inputs.taken a) (settles_decided a writes.decides) fault now writes.fails)
+        ends_at at (stop.fails_waiting s.comes asks_for tt a waits (masked_line start.mask.how stage.inputs.taken a) (settles_decided a writes.decides) fault now writes.fails)
     fails_by (Some a) waits fault now (inr holds) =
-        ends_at at (rw holds.same_output (stop.lacks_memory s.comes asks_for (λ known. tt) fault holds.is))
+        ends_at at (rw holds.same_output (stop.lacks_memory s.comes asks_for tt fault holds.is))
 
     pub fails_record : (fault : FaultValue) (now : Output) → FailsAtRecord start.mask.how start.mask.full stage.inputs.waiting stage r (suc (lines_given second.below)) grown fault now → EndsAt (Some fault) lines second now
     fails_record fault now fails = fails_by stage.inputs.waiting refl fault now fails
@@ -286,4 +293,4 @@ module _ {A B : Type 0} {source_a : Source A} {source_b : Source B} {start : Mas
   pub finishes : mask.want ≡ Nothing → EndsAt None lines second grown
   finishes wants =
       let ends = wants_none stage.inputs.waiting stage.inputs.first_ended stage.inputs.second_ended (sym s.stands.want_is ∙ wants) in
-      ends_at at (stop.ends_all s.comes asks_for (λ known. tt) ends.1 ends.2 (none_lacks ends.0))
+      ends_at at (stop.ends_all s.comes asks_for tt ends.1 ends.2 (none_lacks ends.0))

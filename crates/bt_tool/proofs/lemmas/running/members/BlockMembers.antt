@@ -1,8 +1,8 @@
 -- Lemmas on a reader of records in blocks as one of members, and on a reader of lines at its end.
-use Rattle.bt_lines.proofs.Std.{◌≡◌, ℕ, Bool, true, false, List, [], take, None, Ok, Err, refl, ap, ◌∙◌, subst, option_map, IfSome_then, suc, ◌+◌, ◌-◌, ◌≤◌, ◌∷◌, ◌++◌, length, drop, Option, Some, sym, append_assoc, append-nil, length-append, arith, All, IfSome, drop-append_seam, All-append, inl}
+use Rattle.bt_lines.proofs.Std.{◌≡◌, ℕ, Bool, true, false, List, [], take, None, Ok, Err, refl, ap, ◌∙◌, subst, suc, ◌+◌, ◌-◌, ◌≤◌, ◌∷◌, ◌++◌, length, drop, Option, Some, sym, append_assoc, append-nil, length-append, arith, All, drop-append_seam, All-append, inl}
 use Rattle.bt_lines.specs.declared.device.Source.{Ghosts as Source}
 use Rattle.bt_lines.proofs.lemmas.reader.lines.BufferedLemmas.{none_left}
-use Rattle.bt_lines.specs.calls.Reader.{buffered_bytes, buffered_in, fault_kept as line_fault, has_ended, is_open, lines_given, GivesEnd, GivesFault, IsKept, MakesLine, MayStillCome, TakenLines, TakesLines, held, input_of, lines_coming, lines_left, source_of}
+use Rattle.bt_lines.specs.calls.Reader.{buffered_bytes, buffered_in, fault_kept as line_fault, has_ended, is_open, lines_given, GivesEnd, GivesFault, IsKept, MakesLine, MayStillCome, TakenLines, TakesLines, held, input_of, lines_coming}
 use Rattle.bt_lines.specs.calls.Names.{fault_value}
 use Rattle.bt_lines.specs.declared.fault.Fault.{Fault}
 use Rattle.bt_lines.specs.declared.reader.line_reader.LineReader.{LineReader}
@@ -13,14 +13,14 @@ use Rattle.bt_bed.specs.declared.read.batch.Consumed.{Consumed}
 use Rattle.bt_bed.specs.calls.Blocks.{FillsBlocks, count_in, Lends, TakesBlocks, below, buffered_in as records_in, view_of}
 use Rattle.bt_bed.specs.model.Feature.{Feature}
 use Rattle.bt_bed.specs.model.BedLine.{fault_at_line}
-use Rattle.bt_bed.specs.calls.Reading.{BeginsComing, IsBeyond, AreSaid, MemberReader, Takes, coming, good_behind, good_coming, members_from, state_behind, with_members}
+use Rattle.bt_bed.specs.calls.Reading.{BeginsComing, IsBeyond, AreSaid, MemberReader, Takes, coming, first_from, good_behind, members_from, state_behind, with_members}
 use Rattle.bt_bed.specs.declared.read.batch.Batch.{Batch}
 use Rattle.bt_bed.specs.declared.read.blocks.Blocks.{Blocks}
-use Rattle.bt_tool.specs.inside.Feed.{HasTaken, ComeFirst, IsReadFor, PassesMembers, StopsAfter}
-use Rattle.bt_tool.proofs.lemmas.running.members.MemberLemmas.{IsFilled, IsOver, IsStopped, members_low}
+use Rattle.bt_tool.specs.inside.Feed.{HasTaken, IsReadFor, PassesMembers, StopsAfter, WhateverComes}
+use Rattle.bt_tool.proofs.lemmas.running.members.MemberLemmas.{IsFilled, IsOver, IsStopped, bytes_still, come_then, lines_then, members_low}
 use Rattle.bt_tool.proofs.lemmas.running.members.PassedLemmas.{consumed_of}
-use Rattle.bt_lines.proofs.lemmas.reader.block.ReadsLemmas.{hands_both, hands_none}
-use Rattle.bt_lines.proofs.lemmas.reader.lines.LeftLemmas.{DropsLines, is_prefix, made_left, near_left, taken_left}
+use Rattle.bt_lines.proofs.lemmas.reader.block.ReadsLemmas.{hands_both}
+use Rattle.bt_lines.proofs.lemmas.reader.lines.LeftLemmas.{made_coming}
 use Rattle.bt_lines.proofs.lemmas.reader.lines.TakingLemmas.{sound_near, near_next, prefix_of}
 use Rattle.bt_lines.specs.model.Fault.{FaultValue}
 use Rattle.bt_lines.specs.model.Lines.{TextLine}
@@ -29,13 +29,12 @@ use Rattle.bt_lines.specs.calls.Output.{block_size}
 use Rattle.bt_lines.specs.declared.reader.buffered_lines.ConsumedLines.{ConsumedLines}
 use Rattle.bt_lines.specs.declared.fault.Kind.{Kind}
 use Rattle.bt_lines.specs.declared.fault.Kind.TheVariants.{TextBeforeHeader}
-use Rattle.bt_bed.proofs.lemmas.read.good.KnownLemmas.{left_numbered, near_both, taken_known}
 use Rattle.bt_bed.proofs.lemmas.read.good.ReadingLemmas.{numbered_coming, some_bytes, Going, going_end, going_start, going_unread}
 use Rattle.bt_bed.specs.model.Good.{Good, Member, good_after}
 use Rattle.bt_seq.specs.calls.MaskStage.{SayEach}
 use Rattle.bt_seq.specs.model.Fasta.{Reached, SequenceLine, sequence_says, sequence_format}
 use Rattle.bt_tool.specs.inside.MaskLoop.{line_members}
-use Rattle.bt_tool.proofs.lemmas.running.feed.WritingLemmas.{lines_on, up_to}
+use Rattle.bt_tool.proofs.lemmas.running.feed.WritingLemmas.{lines_on, near_from_start, up_to}
 
 -- after the end no line is buffered
 pub none_over : {S : Type 0} (reader : LineReader S) → has_ended reader ≡ true → buffered_in reader ≡ []
@@ -101,15 +100,12 @@ front_of [] more all e = (all, refl)
 front_of (x ∷ front) more [] e = cc
 front_of (x ∷ front) more (y ∷ all) e = grind (arith, (front_of front more all (cc)))
 
-drops_known : (a b : Option (List TextLine)) (count k : ℕ) → DropsLines a count b → k ≡ count → IfSome a (λ all. b ≡ Some (drop k all))
-drops_known a b count k d e = grind arith
-
-lines_same : (start now new : Option (List TextLine)) (given later : ℕ) → later ≡ given → IfSome start (λ lines. now ≡ Some (drop given lines)) → DropsLines now 0 new → IfSome start (λ lines. new ≡ Some (drop later lines))
-lines_same start now new given later e p s = grind arith
-
-come_same : {A : Type 0} (old : Option (Good A)) (f g : List TextLine → Good A) (now new : Option (List TextLine)) (past : List (Member A)) → ((l : List TextLine) → f l ≡ g l) → DropsLines now 0 new
-    → ComeFirst old past (option_map f now) → ComeFirst old past (option_map g new)
-come_same old f g now new past e s c = grind arith
+-- the first of some members, and others
+first_member : {A : Type 0} (from : ℕ) (items : List A) (m : Member A) (good : Good A) → first_from from items ≡ Some m → (more : List (Member A)) × ((with_members (members_from from items) good).members ≡ m ∷ more)
+first_member from [] m good e = cc
+first_member {A} from (x ∷ items) m good e =
+    let is : record { line = from; item = x } ≡ m = cc in
+    (members_from (suc from) items ++ good.members, ap (λ (m : Member A). m ∷ (members_from (suc from) items ++ good.members)) is)
 
 module _ {S : Type 0} (device : Source S) (full : Bool) where
   -- lines of which these are known to be lines of sequences
@@ -122,34 +118,46 @@ module _ {S : Type 0} (device : Source S) (full : Bool) where
     fault = line_fault lines;
   }
 
-  good_lines : (reached : Reached) (items : List SequenceLine) (lines : LineReader S) → line_fault lines ≡ None
-      → good_coming device.left (known_members reached items lines) ≡ option_map (good_after (sequence_format full) (input_of lines) reached) (lines_left device.left lines)
-  unfolding good_coming
-  good_lines reached items lines none = ap (λ fault. option_map (good_behind (sequence_format full) (input_of lines) fault reached) (lines_left device.left lines)) none
+  good_lines : (reached : Reached) (items : List SequenceLine) (lines : LineReader S) → line_fault lines ≡ None → (rest : List ℕ)
+      → coming rest (known_members reached items lines) ≡ good_after (sequence_format full) (input_of lines) reached (lines_coming rest lines)
+  unfolding coming
+  good_lines reached items lines none rest = ap (λ fault. good_behind (sequence_format full) (input_of lines) fault reached (lines_coming rest lines)) none
 
   -- a line was made buffered
   module _ (old : MemberReader S SequenceLine Reached) (past : List (Member SequenceLine)) (reached : Reached) (lines new : LineReader S) (g : PassesMembers device old past (line_members full reached lines)) where
-    pub passes_made : MakesLine device lines new → (IsKept device lines → IsKept device new) → PassesMembers device old past (line_members full reached new)
-    passes_made makes kept =
-        let lines_now = lines_same (lines_left device.left old.below) (lines_left device.left lines) (lines_left device.left new) (lines_given lines) (lines_given new) makes.counted g.lines (made_left device lines new makes) in
-        record {
-          format = g.format;
-          bytes = (g.bytes.0 ++ makes.bytes.0, hands_both device old.below lines new g.bytes.0 makes.bytes.0 g.bytes.1 makes.bytes.1);
-          said = g.said;
-          state = g.state;
-          come = subst (ComeFirst (good_coming device.left old) past) (sym (good_lines reached [] new makes.goes))
-              (come_same (good_coming device.left old) (good_after (sequence_format full) (input_of lines) reached) (good_after (sequence_format full) (input_of new) reached) (lines_left device.left lines) (lines_left device.left new) past
-              (λ l. ap (λ input. good_after (sequence_format full) input reached l) (sym makes.bytes.1.same_input)) (made_left device lines new makes)
-              (subst (ComeFirst (good_coming device.left old) past) (good_lines reached [] lines g.clear) g.come));
-          behind = up_to (lines_given lines) (lines_given new) past (omega (arith, makes.counted)) g.behind;
-          lines = lines_now;
-          going = makes.goes;
-          clear = makes.goes;
-          kept = kept g.kept;
-          served = makes.served ∙ g.served;
-          ahead = λ known m is. absurd (let apart : None ≡ Some m = is in cc);
-          near = near_both (lines_left device.left old.below) (lines_left device.left new) (device.left (source_of new)) (lines_given new) 1 (suc (lines_given new)) lines_now (omega arith) (near_left device new new (hands_none device new) 1 (near_next new));
-        }
+    module _ (makes : MakesLine device lines new) where
+      lines_made : (rest : List ℕ) → MayStillCome new rest → lines_coming rest new ≡ drop (lines_given new) (lines_coming ((g.bytes.0 ++ makes.bytes.0) ++ rest) old.below)
+      lines_made rest follows =
+          sym (made_coming device lines new makes rest) ∙ lines_then device old past (line_members full reached lines) g makes.bytes.1 rest follows
+          ∙ ap (λ n. drop n (lines_coming ((g.bytes.0 ++ makes.bytes.0) ++ rest) old.below)) (sym makes.counted)
+
+      good_made : (rest : List ℕ) → coming (makes.bytes.0 ++ rest) (line_members full reached lines) ≡ coming rest (line_members full reached new)
+      good_made rest =
+          good_lines reached [] lines g.clear (makes.bytes.0 ++ rest)
+          ∙ ap (good_after (sequence_format full) (input_of lines) reached) (made_coming device lines new makes rest)
+          ∙ ap (λ input. good_after (sequence_format full) input reached (lines_coming rest new)) (sym makes.bytes.1.same_input)
+          ∙ sym (good_lines reached [] new makes.goes rest)
+
+      pub passes_made : (IsKept device lines → IsKept device new) → PassesMembers device old past (line_members full reached new)
+      passes_made kept = record {
+        format = g.format;
+        bytes = (g.bytes.0 ++ makes.bytes.0, hands_both device old.below lines new g.bytes.0 makes.bytes.0 g.bytes.1 makes.bytes.1);
+        said = g.said;
+        state = g.state;
+        come = λ rest follows. come_then device old past (line_members full reached lines) g makes.bytes.1 rest follows ∙ ap (with_members past) (good_made rest);
+        behind = up_to (lines_given lines) (lines_given new) past (omega (arith, makes.counted)) g.behind;
+        lines = lines_made;
+        going = makes.goes;
+        clear = makes.goes;
+        kept = kept g.kept;
+        served = makes.served ∙ g.served;
+        ahead = λ m is. absurd (let apart : None ≡ Some m = is in cc);
+        near = λ rest follows. near_from_start (lines_coming ((g.bytes.0 ++ makes.bytes.0) ++ rest) old.below) (lines_coming rest new) (lines_given new) (lines_given new) (length rest + block_size) (omega arith) (lines_made rest follows)
+            (rw one (near_next new rest follows));
+      }
+        where
+          one : suc (lines_given new) - lines_given new ≡ 1
+          one = omega arith
 
   -- the lines have ended
   module _ (reached : Reached) (lines new : LineReader S) (kept : IsKept device lines → IsKept device new) where
@@ -221,7 +229,28 @@ module _ {S : Type 0} (device : Source S) (full : Bool) where
 
       -- they were known to come
       pub passes_known : (old : MemberReader S SequenceLine Reached) (past : List (Member SequenceLine)) → PassesMembers device old past (line_members full reached lines) → PassesMembers device old past (known_members reached items lines)
-      passes_known old past g = grind (arith, good_lines, (taken_known device (known_members reached items lines) (line_members full reached_then new) taken))
+      passes_known old past g = record {
+        format = g.format;
+        bytes = g.bytes;
+        said = g.said;
+        state = g.state;
+        come = λ rest follows. g.come rest follows ∙ ap (with_members past) (good_lines reached [] lines going rest ∙ sym (good_lines reached items lines going rest));
+        behind = g.behind;
+        lines = g.lines;
+        going = g.going;
+        clear = g.clear;
+        kept = g.kept;
+        served = g.served;
+        ahead = λ m is rest follows.
+            let first = first_member (suc (lines_given lines)) items m (coming rest (line_members full reached_then new)) is in
+            (first.0, ap (λ (good : Good SequenceLine). good.members) (good_then rest (λ told. follows (sym takes.told_is ∙ told))) ∙ first.1);
+        near = g.near;
+      }
+
+      -- once these bytes were handed over
+      pub known_bytes : (old : MemberReader S SequenceLine Reached) (past : List (Member SequenceLine)) (g : PassesMembers device old past (line_members full reached lines)) → (passes_known old past g).bytes.0 ≡ g.bytes.0
+      unfolding passes_known
+      known_bytes old past g = refl
 
   -- lines were taken, of which the last one is at fault
   module _ (old : MemberReader S SequenceLine Reached) (past : List (Member SequenceLine)) (reached : Reached) (lines new : LineReader S) (g : PassesMembers device old past (line_members full reached lines))
@@ -265,20 +294,25 @@ module _ {S : Type 0} (device : Source S) (full : Bool) where
         ∙ ap (λ l. with_members members (good_after (sequence_format full) (input_of lines) (state_behind (sequence_format full) reached items) l)) left_is
         ∙ ap (with_members members) (good_stops front.0)
 
-    whole_by : (good : Option (Good SequenceLine)) (all : Option (List TextLine)) → IfSome all (λ all. take (length (buffered_in lines)) all ≡ buffered_in lines) → IfSome all (AreNumbered (suc (lines_given lines)))
-        → ComeFirst good past (option_map (good_after (sequence_format full) (input_of lines) reached) all) → IfSome good (λ good. (good.members ≡ past ++ members) × (good.fault ≡ Some fault))
-    whole_by good all e n c = grind (arith, good_known, append-nil)
+    still : (rest : List ℕ) → MayStillCome new rest → MayStillCome lines rest
+    still rest follows told = follows (takes.told_is ∙ told)
 
-    whole : IfSome (good_coming device.left old) (λ good. (good.members ≡ past ++ members) × (good.fault ≡ Some fault))
-    whole = grind (arith, whole_by, is_prefix, left_numbered, good_lines)
+    pub whole : WhateverComes old g.bytes.0 refused (λ good. (good.members ≡ past ++ members) × (good.fault ≡ Some fault))
+    whole rest follows =
+        let now : coming rest (line_members full reached lines) ≡ with_members members (record { members = []; fault = Some fault }) =
+        good_lines reached [] lines g.clear rest ∙ good_known (lines_coming rest lines) (prefix_of lines rest (still rest follows)) (numbered_coming lines rest) in
+        let all = g.come rest (still rest follows) ∙ ap (with_members past) now in (
+          ap (λ (good : Good SequenceLine). good.members) all ∙ ap (λ (l : List (Member SequenceLine)). past ++ l) (append-nil members),
+          ap (λ (good : Good SequenceLine). good.fault) all,
+        )
 
-    clear : line_fault new ≡ None
+    pub clear : line_fault new ≡ None
     clear = takes.fault_is ∙ g.clear
 
     -- so it stops there
-    pub refuses : (Kinds : Kind → Type 0) → Kinds kind → StopsAfter device old Kinds (past ++ members) fault refused
+    abbrev pub refuses : (Kinds : Kind → Type 0) → Kinds kind → StopsAfter device old Kinds (past ++ members) fault refused
     refuses Kinds of_kind = record {
-      bytes = (g.bytes.0 ++ [], hands_both device old.below lines new g.bytes.0 [] g.bytes.1 takes.hands);
+      bytes = bytes_still device old past (line_members full reached lines) g refused takes.hands;
       cause = inl (inl (record {
         whole = whole;
         line = line.number;
@@ -286,35 +320,36 @@ module _ {S : Type 0} (device : Source S) (full : Bool) where
         is = is;
         of_kind = of_kind;
         served = ap device.has_failed takes.source_is ∙ g.served;
+        clear = clear;
         within = (takes.kept g.kept).within clear;
       }));
     }
 
-    lines_then : IfSome (lines_left device.left old.below) (λ all. lines_left device.left new ≡ Some (drop (lines_given new) all))
-    lines_then =
-        lines_on (lines_left device.left old.below) (lines_left device.left lines) (lines_left device.left new) (lines_given lines) (lines_given new) (omega (arith, given_is)) g.lines
-        (drops_known (lines_left device.left lines) (lines_left device.left new) _ (lines_given new - lines_given lines) (taken_left device lines new consumed takes) (omega (arith, takes.given, are.given, are.feeds)))
+    lines_now : (rest : List ℕ) → MayStillCome new rest → lines_coming rest new ≡ drop (lines_given new) (lines_coming (g.bytes.0 ++ rest) old.below)
+    lines_now rest follows =
+        lines_on (lines_coming (g.bytes.0 ++ rest) old.below) (lines_coming rest lines) (lines_coming rest new) (lines_given lines) (lines_given new) (omega (arith, given_is)) (g.lines rest (still rest follows))
+        (takes.left_is rest follows ∙ ap (λ k. drop k (lines_coming rest lines)) (omega (arith, takes.given, are.given, are.feeds)))
 
     held_block : length (held new) ≤ block_size
     held_block = takes.near (some_bytes consumed.bytes (buffered_bytes lines) (omega (arith, are.feeds, length-append before (line ∷ []))))
 
-    behind_by : (good : Option (Good SequenceLine)) → IfSome good (λ good. (good.members ≡ past ++ members) × (good.fault ≡ Some fault))
-        → IfSome good (λ good. (rest : List (Member SequenceLine)) × (good.members ≡ (past ++ members) ++ rest) × IsBeyond count (record { members = rest; fault = good.fault }))
+    behind_by : (good : Good SequenceLine) → (good.members ≡ past ++ members) × (good.fault ≡ Some fault)
+        → (more : List (Member SequenceLine)) × (good.members ≡ (past ++ members) ++ more) × IsBeyond count (record { members = more; fault = good.fault })
     behind_by good w = grind (arith, append-nil, number_by (suc (lines_given lines)) before numbered, say_count full reached before items say)
 
     low_then : All (λ m. m.line ≤ count) (past ++ members)
     low_then =
         All-append (λ (m : Member SequenceLine). m.line ≤ count) past members (up_to (lines_given lines) count past (omega arith) g.behind) (members_low (lines_given lines) items)
 
-    pub refuses_read : IsReadFor device old (past ++ members) (past ++ members) refused
+    pub refuses_read : IsReadFor device old g.bytes.0 (past ++ members) (past ++ members) refused
     refuses_read = record {
       to = record {
         count = count;
-        near = near_both (lines_left device.left old.below) (lines_left device.left new) (device.left (source_of new)) (lines_given new) 0 (suc count) lines_then (omega (arith, given_is))
-            (near_left device new new (hands_none device new) 0 (λ rest follows. sound_near device new (record { end = (takes.kept g.kept).end; within = (takes.kept g.kept).within; near = λ none. held_block }) clear rest));
-        behind = behind_by (good_coming device.left old) whole;
+        near = λ rest follows. rw (← given_is, ← lines_now rest follows)
+            (sound_near device new (record { end = (takes.kept g.kept).end; within = (takes.kept g.kept).within; near = λ none. held_block }) clear rest);
+        behind = λ rest follows. behind_by (coming (g.bytes.0 ++ rest) old) (whole rest follows);
       };
       low = low_then;
       high = up_to count (suc count) (past ++ members) (omega arith) low_then;
-      begins = IfSome_then (good_coming device.left old) whole (λ good w. ([], w.0 ∙ sym (append-nil (past ++ members))));
+      begins = λ rest follows. ([], (whole rest follows).0 ∙ sym (append-nil (past ++ members)));
     }

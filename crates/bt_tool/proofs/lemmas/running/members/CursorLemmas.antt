@@ -1,10 +1,10 @@
 -- Lemmas on lines that were consumed of those buffered: the lines that are left tell how many bytes they had.
-use Rattle.bt_lines.proofs.Std.{common_steps, ◌≡◌, ℕ, zero, suc, ◌+◌, ◌-◌, ◌≤◌, Bool, true, false, nat_eq, List, [], ◌∷◌, ◌++◌, length, take, drop, refl, sym, ap, ◌∙◌, subst, append_assoc, append-nil, length-append, length-take, length-drop, arith, inl, inr, ◌⊎◌, All, flat_map, drop-append_seam, take-append_seam, take-length, take-append-drop, All-cons, All-head, All-nil, All-tail, ◌≢◌, Option, Some, ◌^◌, None, ◌<◌, nat_le, append_cancel_right, Consumes, IfSome, IsSome, option_map}
+use Rattle.bt_lines.proofs.Std.{common_steps, ◌≡◌, ℕ, zero, suc, ◌+◌, ◌-◌, ◌≤◌, Bool, true, false, nat_eq, List, [], ◌∷◌, ◌++◌, length, take, drop, refl, sym, ap, ◌∙◌, subst, append_assoc, append-nil, length-append, length-take, length-drop, arith, inl, inr, ◌⊎◌, All, flat_map, drop-append_seam, take-append_seam, take-length, take-append-drop, All-cons, All-head, All-nil, All-tail, ◌≢◌, Option, Some, ◌^◌, None, ◌<◌, nat_le, false≢true}
 use Rattle.bt_lines.proofs.lemmas.reader.block.BufferLemmas.{fed_clear, fed_drop, fed_last, fed_none, fed_push}
 use Rattle.bt_lines.proofs.lemmas.reader.lines.TextLemmas.{lines_from-fed, lines_from-last, lines_from-nil, spelled-fed, by_lines, lines_are_numbered, whole_lines_are_numbered, bytes_in-lines, line_feeds-append, line_feeds-fed, whole_count, whole_lines_from-fed, whole_lines_from-last, bytes_in-append, whole_front}
 use Rattle.bt_lines.proofs.lemmas.reader.lines.BufferedLemmas.{lines_taken}
-use Rattle.bt_lines.proofs.lemmas.reader.lines.LeftLemmas.{all_left}
-use Rattle.bt_lines.specs.calls.Reader.{BeginsLines, IsWhere, PassesLines, buffered_lines, lines_in, rest_in, TakenLines, buffered_bytes, is_open, lines_given, CutsOff, Hands, source_of, bytes_taken, feeds_taken, IsSound, end_told, fault_kept, input_of, lines_coming, lines_left}
+use Rattle.bt_lines.proofs.lemmas.reader.block.ReadsLemmas.{none_failed}
+use Rattle.bt_lines.specs.calls.Reader.{BeginsLines, IsWhere, PassesLines, buffered_lines, lines_in, rest_in, TakenLines, buffered_bytes, is_open, lines_given, AreRead, EndsReads, Hands, IsReadFailed, MayStillCome, source_of, bytes_taken, feeds_taken, IsSound, end_told, fault_kept, input_of, lines_coming}
 use Rattle.bt_lines.specs.model.Lines.{TextLine, bytes_in, fed_line, last_line, lines_from, spelled, whole_lines_from, Handed, whole_text, text_lines}
 use Rattle.bt_lines.specs.calls.Line.{AreNumbered, line_feeds}
 use Rattle.bt_lines.specs.inside.Shape.{IsLast, is_fed}
@@ -14,14 +14,17 @@ use Rattle.bt_lines.specs.declared.reader.line_reader.LineReader.{LineReader}
 use Rattle.bt_lines.specs.declared.device.Source.{Ghosts as Source}
 use Rattle.bt_lines.specs.model.Fault.{FaultValue, read_failed}
 use Rattle.bt_lines.specs.declared.fault.Input.{Input}
-use Rattle.bt_tool.specs.calls.Inputs.{Reads, handed_by}
+use Rattle.bt_tool.specs.calls.Run.{TellsRead}
+use Rattle.bt_tool.specs.calls.Inputs.{CameOf, InputRead, MayHold, ReadsAs, ReadsSo, handed_by}
+use Rattle.bt_lines.specs.calls.Device.{ReadsOn}
+use Rattle.bt_lines.specs.inside.ReadBuffer.{fault_at, told_at}
+use Rattle.bt_lines.specs.declared.reader.line_reader.State.{State}
 use Rattle.bt_lines.specs.calls.Output.{block_size}
 use Rattle.bt_bed.specs.model.Good.{Format, Member, good, good_handed, Good}
-use Rattle.bt_bed.specs.calls.Reading.{IsBeyond, MemberReader, coming, good_coming}
-use Rattle.bt_bed.proofs.lemmas.read.good.KnownLemmas.{start_known}
+use Rattle.bt_bed.specs.calls.Reading.{IsBeyond, MemberReader, coming}
 use Rattle.bt_bed.proofs.lemmas.read.good.SaidLemmas.{first_from}
 use Rattle.bt_lines.specs.declared.fault.Kind.{Kind}
-use Rattle.bt_tool.specs.inside.Feed.{IsFresh, HasFaultBehind, IsUnreadBehind}
+use Rattle.bt_tool.specs.inside.Feed.{IsFresh, HasFaultBehind, IsKeptBelow, IsNearTo, IsUnreadBehind, WhateverComes}
 
 -- after a piece and its line feed complete lines go on
 fed_behind : (piece rest : List ℕ) → is_fed (piece ++ 10 ∷ rest) ≡ true → is_fed rest ≡ true
@@ -197,19 +200,16 @@ module _ {S : Type 0} (reader : LineReader S) (first last : BufferedLines) (text
   unfolding lines_in
   lines_numbered = grind (arith, numbered_front, (numbered_by first.is_open first.lines (rest_in first)))
 
--- What is known of the text of an input, once it was read.
+-- What may be the text of an input, once it was read.
 
-module _ {S : Type 0} (device : Source S) (first last : S) (fault : Option FaultValue) where
-  -- it is the whole text, and no failed read is reported
-  pub record IsWhole (handed : Handed) : Type 0 where
-    pub text : List ℕ
-    pub known : device.left first ≡ Some text
-    pub is : handed ≡ whole_text text
-    pub no_read : (input : Input) (line : ℕ) → fault ≢ Some (read_failed input line)
+-- it may be the whole text, and no failed read is reported
+pub record IsWhole (read : InputRead) (fault : Option FaultValue) (handed : Handed) : Type 0 where
+  pub holds : MayHold read handed
+  pub no_read : (input : Input) (line : ℕ) → fault ≢ Some (read_failed input line)
 
-  -- this came of it, or is all of it if no failed read is reported
-  abbrev pub Came : Handed → Type 0
-  Came handed = Reads device first last handed ⊎ IsWhole handed
+-- this came of it, or is all of it if no failed read is reported
+abbrev pub Came : InputRead → Option FaultValue → Handed → Type 0
+Came read fault handed = CameOf read handed ⊎ IsWhole read fault handed
 
 -- Lemmas on what an input handed over: its first lines, and the piece that a failed read cut off.
 
@@ -237,75 +237,90 @@ pub handed_past : (failed passed : Bool) (text bytes : List ℕ) → passed ≡ 
     → handed_by failed passed text bytes ≡ record { text = take (2 ^ 63 - 1) bytes; is_cut = true }
 handed_past failed passed text bytes p = grind arith
 
--- a text is what was consumed of it and what is left
-pub consumes_parts : (a b : Option (List ℕ)) (bytes text : List ℕ) → a ≡ Some text → Consumes a b bytes
-    → (rest : List ℕ) × (b ≡ Some rest) × (bytes ++ rest ≡ text)
-consumes_parts a b bytes text e c = grind arith
-
-below_bound : (n : ℕ) → n < 2 ^ 63 → nat_le (2 ^ 63) n ≡ false
+pub below_bound : (n : ℕ) → n < 2 ^ 63 → nat_le (2 ^ 63) n ≡ false
 below_bound n h = grind arith
 
-past_bound : (n : ℕ) → 2 ^ 63 ≤ n → nat_le (2 ^ 63) n ≡ true
+pub past_bound : (n : ℕ) → 2 ^ 63 ≤ n → nat_le (2 ^ 63) n ≡ true
 past_bound n h = grind arith
 
--- a reader that had taken nothing, and what it has become; its source before and after
-module _ {S : Type 0} (device : Source S) {first last : S} (old new : LineReader S) (source : source_of old ≡ first) (ended : source_of new ≡ last) (fresh : bytes_taken old ≡ 0) where
-  pub consumed_by : (bytes : List ℕ) → Hands device old bytes new → Consumes (device.left first) (device.left last) bytes
-  consumed_by bytes hands = subst (λ s. Consumes (device.left first) (device.left s) bytes) ended (subst (λ s. Consumes (device.left s) (device.left (source_of new)) bytes) source hands.left_over)
+-- and if a read failed
+handed_failed : (failed passed : Bool) (text bytes : List ℕ) → failed ≡ true → handed_by failed passed text bytes ≡ record { text = take (2 ^ 63 - 1) bytes; is_cut = true }
+handed_failed failed passed text bytes f = grind arith
 
-  -- the bytes that a run was handed are those that the reader took
-  pub taken_by : (handed : Handed) (reads : Reads device first last handed) (bytes : List ℕ) → Hands device old bytes new → (reads.bytes ≡ bytes) × (length reads.bytes ≡ bytes_taken new)
-  taken_by handed reads bytes hands = grind (arith, append_cancel_right)
+-- what came of a text is all of it, or was cut off
+pub came_is_all : {read : InputRead} {handed : Handed} → CameOf read handed → (read.failed ≡ true → ⊥) → nat_le (2 ^ 63) (length read.bytes) ≡ false → MayHold read handed
+came_is_all {read} came served within = record {
+  rest = came.rest;
+  follows = came.follows;
+  is = came.is ∙ all_by read.failed (nat_le (2 ^ 63) (length read.bytes)) served within;
+}
+  where
+    all_by : (failed passed : Bool) → (failed ≡ true → ⊥) → passed ≡ false → handed_by failed passed (read.bytes ++ came.rest) read.bytes ≡ whole_text (read.bytes ++ came.rest)
+    all_by true passed never e = absurd (never refl)
+    all_by false true never e = absurd (false≢true (sym e))
+    all_by false false never e = refl
 
-  -- an input that worked and passed no bound was handed over completely
-  pub handed_all : (handed : Handed) (reads : Reads device first last handed) → (bytes : List ℕ) × Hands device old bytes new
-      → device.has_failed (source_of new) ≡ device.has_failed (source_of old) → bytes_taken new < 2 ^ 63 → handed ≡ whole_text reads.text
-  handed_all handed reads hands served within = grind (arith, (below_bound (length reads.bytes) (omega (arith, (taken_by handed reads hands.0 hands.1).1, within))))
+pub came_is_cut : {read : InputRead} {handed : Handed} → CameOf read handed → (read.failed ≡ false → nat_le (2 ^ 63) (length read.bytes) ≡ true) → handed ≡ record { text = take (2 ^ 63 - 1) read.bytes; is_cut = true }
+came_is_cut {read} came past = came.is ∙ part_by read.failed (nat_le (2 ^ 63) (length read.bytes)) past
+  where
+    part_by : (failed passed : Bool) → (failed ≡ false → passed ≡ true) → handed_by failed passed (read.bytes ++ came.rest) read.bytes ≡ record { text = take (2 ^ 63 - 1) read.bytes; is_cut = true }
+    part_by true passed e = handed_failed true passed (read.bytes ++ came.rest) read.bytes refl
+    part_by false passed e = handed_past false passed (read.bytes ++ came.rest) read.bytes (e refl)
 
-  -- one that failed or passed the bound was cut off
-  pub handed_part : (handed : Handed) (reads : Reads device first last handed) → (bytes : List ℕ) × Hands device old bytes new
-      → (device.has_failed (source_of new) ≡ true) ⊎ (2 ^ 63 ≤ bytes_taken new)
-      → handed ≡ record { text = take (2 ^ 63 - 1) reads.bytes; is_cut = true }
-  handed_part handed reads hands (inl fails) = grind arith
-  handed_part handed reads hands (inr past) = grind (arith, handed_past, (past_bound (length reads.bytes) (omega (arith, (taken_by handed reads hands.0 hands.1).1, past))))
+-- How a reader's reads went: whether the last one failed, and what it keeps then.
+pub record ReadOf {S : Type 0} (device : Source S) (old : LineReader S) (bytes : List ℕ) (new : LineReader S) : Type 0 where
+  pub failed : Bool
+  pub reads : ReadsAs (end_told new) failed device.is_read (source_of old) bytes (source_of new)
+  pub kept : failed ≡ true → IsReadFailed (fault_kept new)
+  pub past : failed ≡ false → IsReadFailed (fault_kept new) → 2 ^ 63 ≤ bytes_taken new
 
-  -- the rest of the text comes after what was cut off, and the lines given are as many as its line feeds
-  pub record CutText (handed : Handed) (reads : Reads device first last handed) : Type 0 where
-    pub more : List ℕ
-    pub text : take (2 ^ 63 - 1) reads.bytes ++ more ≡ reads.text
-    pub given : lines_given new ≡ line_feeds (take (2 ^ 63 - 1) reads.bytes)
+-- a reader that keeps a failed read wasn't told the end
+failed_untold : {S : Type 0} (reader : LineReader S) → IsReadFailed (fault_kept reader) → end_told reader ≡ false
+unfolding fault_kept end_told
+failed_untold reader kept = told_by reader.state kept.2
+  where
+    told_by : (state : State) → fault_at state reader.input reader.lines ≡ Some (read_failed kept.0 kept.1) → told_at state ≡ false
+    told_by state e = grind arith
 
-  pub cut_text : (handed : Handed) (reads : Reads device first last handed) → feeds_taken old ≡ 0 → (bytes : List ℕ) → Hands device old bytes new → CutsOff old bytes new → CutText handed reads
-  cut_text handed reads fed bytes hands cut =
-      let parts = consumes_parts (device.left first) (device.left last) reads.bytes reads.text reads.known reads.consumed in
-      let front = take (2 ^ 63 - 1) reads.bytes in
-      let same : line_feeds (take (2 ^ 63 - 1 - bytes_taken old) bytes) ≡ line_feeds front =
-      ap (λ n. line_feeds (take (2 ^ 63 - 1 - n) bytes)) fresh ∙ ap (λ l. line_feeds (take (2 ^ 63 - 1) l)) (sym (taken_by handed reads bytes hands).0) in
-      record {
-        more = drop (2 ^ 63 - 1) reads.bytes ++ parts.0;
-        text = sym (append_assoc front (drop (2 ^ 63 - 1) reads.bytes) parts.0) ∙ ap (λ l. l ++ parts.0) (take-append-drop (2 ^ 63 - 1) reads.bytes) ∙ parts.2;
-        given = omega (arith, cut, fed, same);
+module _ {S : Type 0} (device : Source S) {old : LineReader S} {bytes : List ℕ} {new : LineReader S} (hands : Hands device old bytes new) (untold : end_told old ≡ false) (going : fault_kept old ≡ None) where
+  pub read_of : ReadOf device old bytes new
+  unfolding AreRead EndsReads
+  read_of = go (end_told new) refl hands.reads
+    where
+      served : (told : Bool) → end_told new ≡ told → ReadsOn device.is_read (source_of old) bytes (source_of new) → ReadsAs told false device.is_read (source_of old) bytes (source_of new)
+      served true e reads = hands.ends_reads.1 untold e
+      served false e reads = reads
+
+      go : (told : Bool) → end_told new ≡ told → AreRead device old bytes new → ReadOf device old bytes new
+      go told e (inl on) = record {
+        failed = false;
+        reads = subst (λ t. ReadsAs t false device.is_read (source_of old) bytes (source_of new)) (sym e) (served told e on.0);
+        kept = λ failed. absurd (false≢true failed);
+        past = λ never failed. on.1 going failed;
+      }
+      go told e (inr fails) = record {
+        failed = true;
+        reads = subst (λ t. ReadsAs t true device.is_read (source_of old) bytes (source_of new)) (sym (failed_untold new fails.1)) fails.0;
+        kept = λ failed. fails.1;
+        past = λ served. absurd (false≢true (sym served));
       }
 
 -- Lemmas on what is good of an input that a reader of members took.
-
--- what holds of a known value
-pub some_of : {A : Type 0} (a : Option A) (value : A) (P : A → Type 0) → a ≡ Some value → IfSome a P → P value
-some_of a value P e h = grind arith
 
 -- what is good of a whole text
 pub good_whole : {A State : Type 0} (format : Format A State) (input : Input) (text : List ℕ) → good_handed format input (whole_text text) ≡ good format input (text_lines text)
 good_whole format input text = grind arith
 
 -- a reader at its beginning
-pub record BeginsAt {S A State : Type 0} (left : S → Option (List ℕ)) (format : Format A State) (input : Input) (first : S) (old : MemberReader S A State) : Type 0 where
+pub record BeginsAt {S A State : Type 0} (format : Format A State) (input : Input) (first : S) (old : MemberReader S A State) : Type 0 where
   pub source : source_of old.below ≡ first
   pub input_is : input_of old.below ≡ input
   pub going : fault_kept old.below ≡ None
+  pub untold : end_told old.below ≡ false
   pub bytes : bytes_taken old.below ≡ 0
   pub feeds : feeds_taken old.below ≡ 0
-  pub lines : lines_left left old.below ≡ option_map text_lines (left first)
-  pub good : good_coming left old ≡ option_map (good format input) (option_map text_lines (left first))
+  pub lines : (rest : List ℕ) → lines_coming rest old.below ≡ text_lines rest
+  pub good : (rest : List ℕ) → coming rest old ≡ good format input (text_lines rest)
 
 -- a reader of members over a reader of lines that has given nothing
 module _ {S A State : Type 0} (device : Source S) {reader : LineReader S} (members : MemberReader S A State)
@@ -315,70 +330,91 @@ module _ {S A State : Type 0} (device : Source S) {reader : LineReader S} (membe
 
   pub begins_over : {format : Format A State} {input : Input} {first : S} → source_of reader ≡ first → input_of reader ≡ input → fault_kept reader ≡ None
       → end_told reader ≡ false → ((rest : List ℕ) → lines_coming rest reader ≡ text_lines rest)
-      → (fault_kept reader ≡ None → (rest : List ℕ) → coming rest members ≡ good format (input_of reader) (lines_coming rest reader)) → BeginsAt device.left format input first members
-  begins_over {format} source same going untold all known =
-      let lines = all_left device.left reader untold all in
-      let there = start_known device members (good format (input_of reader)) (λ rest. known going rest ∙ ap (λ r. good format (input_of reader) (lines_coming rest r)) (sym is)) in
-      grind arith
+      → (fault_kept reader ≡ None → (rest : List ℕ) → coming rest members ≡ good format (input_of reader) (lines_coming rest reader)) → BeginsAt format input first members
+  begins_over {format} source same going untold all known = record {
+    source = ap source_of is ∙ source;
+    input_is = ap input_of is ∙ same;
+    going = ap fault_kept is ∙ going;
+    untold = ap end_told is ∙ untold;
+    bytes = ap bytes_taken is ∙ taken;
+    feeds = ap feeds_taken is ∙ fed;
+    lines = λ rest. ap (lines_coming rest) is ∙ all rest;
+    good = λ rest. known going rest ∙ ap (λ input. good format input (lines_coming rest reader)) same ∙ ap (good format _) (all rest);
+  }
 
-module _ {S A State : Type 0} (device : Source S) {format : Format A State} {input : Input} {first : S} (old : MemberReader S A State) (begins : BeginsAt device.left format input first old)
-    (new : MemberReader S A State) {last : S} (ended : source_of new.below ≡ last) where
-  good_known : (text : List ℕ) → device.left first ≡ Some text → good_coming device.left old ≡ Some (good format input (text_lines text))
-  good_known text e = begins.good ∙ ap (λ o. option_map (good format input) (option_map text_lines o)) e
+module _ {S A State : Type 0} (device : Source S) {format : Format A State} {input : Input} {first : S} (old : MemberReader S A State) (begins : BeginsAt format input first old)
+    (new : MemberReader S A State) {last : S} (ended : source_of new.below ≡ last) {bytes : List ℕ} (hands : Hands device old.below bytes new.below) where
+  unfoldable pub of_reader : ReadOf device old.below bytes new.below
+  of_reader = read_of device hands begins.untold begins.going
 
-  pub is_known : (text : List ℕ) → device.left first ≡ Some text → IsSome (good_coming device.left old)
-  is_known text e = subst IsSome (sym (good_known text e)) refl
+  -- what was read of the input
+  abbrev pub read : InputRead
+  read = record { bytes = bytes; told = end_told new.below; failed = of_reader.failed }
 
-  -- what is so of the good records of the text
-  pub at_whole : (text : List ℕ) → device.left first ≡ Some text → (P : Good A → Type 0) → IfSome (good_coming device.left old) P → P (good_handed format input (whole_text text))
-  at_whole text e P h = subst P (sym (good_whole format input text)) (some_of (good_coming device.left old) (good format input (text_lines text)) P (good_known text e) h)
+  pub reads_so : ReadsSo device.is_read first read last
+  reads_so =
+      subst (λ (s : S). ReadsAs (end_told new.below) of_reader.failed device.is_read s bytes last) begins.source
+      (subst (λ (s : S). ReadsAs (end_told new.below) of_reader.failed device.is_read (source_of old.below) bytes s) ended of_reader.reads)
+
+  counted : length bytes ≡ bytes_taken new.below
+  counted = omega (arith, hands.counted, begins.bytes)
+
+  -- what is so of the good records of each text that it may have
+  pub at_whole : {handed : Handed} → MayHold read handed → (P : Good A → Type 0) → WhateverComes old bytes new P → P (good_handed format input handed)
+  at_whole holds P h =
+      subst (λ t. P (good_handed format input t)) (sym holds.is) (subst P (begins.good (bytes ++ holds.rest) ∙ sym (good_whole format input (bytes ++ holds.rest))) (h holds.rest holds.follows))
+
+  -- if no read failed, and the bound wasn't passed
+  came_all : {handed : Handed} → CameOf read handed → fault_kept new.below ≡ None → bytes_taken new.below < 2 ^ 63 → MayHold read handed
+  came_all came clear within = came_is_all came (λ e. none_failed (fault_kept new.below) clear (of_reader.kept e)) (below_bound (length bytes) (omega (arith, counted, within)))
 
   -- an input that worked
-  pub came_whole : {fault : Option FaultValue} {handed : Handed} → Came device first last fault handed → (bytes : List ℕ) × Hands device old.below bytes new.below
-      → device.has_failed (source_of new.below) ≡ device.has_failed (source_of old.below) → bytes_taken new.below < 2 ^ 63
-      → (P : Good A → Type 0) → IfSome (good_coming device.left old) P → P (good_handed format input handed)
-  came_whole {handed} (inl reads) hands served within P h =
-      subst (λ t. P (good_handed format input t)) (sym (handed_all device old.below new.below begins.source ended begins.bytes handed reads hands served within)) (at_whole reads.text reads.known P h)
-  came_whole (inr whole) hands served within P h = subst (λ t. P (good_handed format input t)) (sym whole.is) (at_whole whole.text whole.known P h)
+  pub came_whole : {fault : Option FaultValue} {handed : Handed} → Came read fault handed → fault_kept new.below ≡ None → bytes_taken new.below < 2 ^ 63
+      → (P : Good A → Type 0) → WhateverComes old bytes new P → P (good_handed format input handed)
+  came_whole (inl came) clear within P h = at_whole (came_all came clear within) P h
+  came_whole (inr whole) clear within P h = at_whole whole.holds P h
+
+  -- one that failed or passed the bound was cut off
+  came_part : {handed : Handed} → CameOf read handed → IsReadFailed (fault_kept new.below) → handed ≡ record { text = take (2 ^ 63 - 1) bytes; is_cut = true }
+  came_part came kept = came_is_cut came (λ e. past_bound (length bytes) (omega (arith, counted, of_reader.past e kept)))
 
   -- one that failed to be read
-  pub came_cut : (past : List (Member A)) (fault : FaultValue) (handed : Handed) → Came device first last (Some fault) handed → IsUnreadBehind device old past fault new
+  pub came_cut : (past : List (Member A)) (fault : FaultValue) (handed : Handed) → Came read (Some fault) handed → IsUnreadBehind device old bytes past fault new → IsReadFailed (fault_kept new.below)
       → good_handed format input handed ≡ record { members = past; fault = Some fault }
-  came_cut past fault handed (inr whole) unread = absurd (whole.no_read (input_of old.below) (suc (lines_given new.below)) (ap Some unread.is))
-  came_cut past fault handed (inl reads) unread =
-      let cut = unread.cut in
-      let texts = cut_text device old.below new.below begins.source ended begins.bytes handed reads begins.feeds cut.0 cut.1 cut.2 in
-      let front = take (2 ^ 63 - 1) reads.bytes in
-      let more = texts.more in
-      let text = texts.text in
-      let given = texts.given in
-      let members = some_of (good_coming device.left old) (good format input (text_lines reads.text)) (λ g. (rest : List (Member A)) × (g.members ≡ past ++ rest) × IsBeyond (lines_given new.below) (record { members = rest; fault = g.fault }))
-      (good_known reads.text reads.known) unread.members in
+  came_cut past fault handed (inr whole) unread kept = absurd (whole.no_read (input_of old.below) (suc (lines_given new.below)) (ap Some unread.is))
+  came_cut past fault handed (inl came) unread kept =
+      let front = take (2 ^ 63 - 1) bytes in
+      let more = drop (2 ^ 63 - 1) bytes ++ came.rest in
+      let text : front ++ more ≡ bytes ++ came.rest = sym (append_assoc front (drop (2 ^ 63 - 1) bytes) came.rest) ∙ ap (λ l. l ++ came.rest) (take-append-drop (2 ^ 63 - 1) bytes) in
+      let same : line_feeds (take (2 ^ 63 - 1 - bytes_taken old.below) bytes) ≡ line_feeds front = ap (λ n. line_feeds (take (2 ^ 63 - 1 - n) bytes)) begins.bytes in
+      let given : lines_given new.below ≡ line_feeds front = omega (arith, unread.cut, begins.feeds, same) in
+      let all = begins.good (bytes ++ came.rest) ∙ ap (λ t. good format input (text_lines t)) (sym text) in
+      let members = subst (λ (g : Good A). (rest : List (Member A)) × (g.members ≡ past ++ rest) × IsBeyond (lines_given new.below) (record { members = rest; fault = g.fault })) all (unread.members came.rest came.follows) in
       let told : Some (read_failed input (suc (line_feeds front))) ≡ Some fault =
       ap Some (sym (unread.is ∙ ap (λ i. read_failed i (suc (lines_given new.below))) begins.input_is ∙ ap (λ n. read_failed input (suc n)) given)) in
-      ap (good_handed format input) (handed_part device old.below new.below begins.source ended begins.bytes handed reads (cut.0, cut.1) unread.cause)
-      ∙ cut_good format input front more past members.0 (good format input (text_lines (front ++ more))).fault
-      (subst (λ t. (good format input (text_lines t)).members ≡ past ++ members.0) (sym text) members.1) refl
+      ap (good_handed format input) (came_part came kept)
+      ∙ cut_good format input front more past members.0 (good format input (text_lines (front ++ more))).fault members.1 refl
       (subst (λ n. All (λ m. m.line ≤ n) past) given unread.behind)
-      (rw text (subst (λ n. IsBeyond n (record { members = members.0; fault = (good format input (text_lines reads.text)).fault })) given members.2))
+      (subst (λ n. IsBeyond n (record { members = members.0; fault = (good format input (text_lines (front ++ more))).fault })) given members.2)
       ∙ ap (λ f. record { members = past; fault = f }) told
 
   -- one with a fault
-  pub says_fault : (Kinds : Kind → Type 0) (past : List (Member A)) (fault : FaultValue) (handed : Handed) → Came device first last (Some fault) handed → (bytes : List ℕ) × Hands device old.below bytes new.below
-      → HasFaultBehind device old Kinds past fault new → ((good_handed format input handed).members ≡ past) × ((good_handed format input handed).fault ≡ Some fault)
-  says_fault Kinds past fault handed came hands (inl wrong) = grind (arith, (came_whole came hands wrong.served wrong.within (λ good. (good.members ≡ past) × (good.fault ≡ Some fault)) wrong.whole))
-  says_fault Kinds past fault handed came hands (inr unread) = grind (arith, (came_cut past fault handed came unread))
+  pub says_fault : (Kinds : Kind → Type 0) (past : List (Member A)) (fault : FaultValue) (handed : Handed) → Came read (Some fault) handed → IsKeptBelow new new.below
+      → HasFaultBehind device old Kinds bytes past fault new → ((good_handed format input handed).members ≡ past) × ((good_handed format input handed).fault ≡ Some fault)
+  says_fault Kinds past fault handed came kept (inl wrong) = came_whole came wrong.clear wrong.within (λ good. (good.members ≡ past) × (good.fault ≡ Some fault)) wrong.whole
+  says_fault Kinds past fault handed came kept (inr unread) =
+      let is = came_cut past fault handed came unread (input_of old.below, suc (lines_given new.below), kept (input_of old.below) (suc (lines_given new.below)) (unread.kept ∙ ap Some unread.is)) in
+      (ap (λ (g : Good A). g.members) is, ap (λ (g : Good A). g.fault) is)
 
   -- what was handed over, by how many lines were read
-  pub handed_to : (count : ℕ) (text : List ℕ) → device.left first ≡ Some text
-      → IfSome (lines_left device.left old.below) (λ lines. IfSome (device.left (source_of new.below)) (λ rest. bytes_in (drop (suc count) lines) ≤ length rest + block_size))
-      → (bytes : List ℕ) × Hands device old.below bytes new.below
-      → (handed : List ℕ) × Consumes (device.left first) (device.left last) handed × (length handed ≤ bytes_in (take (suc count) (text_lines text)) + block_size)
-  handed_to count text e near hands =
-      let handed = consumed_by device old.below new.below begins.source ended begins.bytes hands.0 hands.1 in
-      let parts = consumes_parts (device.left first) (device.left last) hands.0 text e handed in
-      let rest : device.left (source_of new.below) ≡ Some parts.0 = ap device.left ended ∙ parts.1 in
-      let lines : lines_left device.left old.below ≡ Some (text_lines text) = begins.lines ∙ ap (option_map text_lines) e in
-      let here = some_of (device.left (source_of new.below)) parts.0 (λ rest. bytes_in (drop (suc count) (text_lines text)) ≤ length rest + block_size) rest
-      (some_of (lines_left device.left old.below) (text_lines text) (λ lines. IfSome (device.left (source_of new.below)) (λ rest. bytes_in (drop (suc count) lines) ≤ length rest + block_size)) lines near) in
-      (hands.0, handed, handed_near (suc count) text hands.0 parts.0 parts.2 here)
+  pub handed_to : (count : ℕ) (rest : List ℕ) → MayStillCome new.below rest → IsNearTo count old bytes new → length bytes ≤ bytes_in (take (suc count) (text_lines (bytes ++ rest))) + block_size
+  handed_to count rest follows near =
+      handed_near (suc count) (bytes ++ rest) bytes rest refl (subst (λ lines. bytes_in (drop (suc count) lines) ≤ length rest + block_size) (begins.lines (bytes ++ rest)) (near rest follows))
+
+  -- a failed read that is told
+  pub tells_read : {past : List (Member A)} {fault : FaultValue} → IsUnreadBehind device old bytes past fault new → TellsRead device input read last fault
+  tells_read {fault = fault} unread = record {
+    line = suc (lines_given new.below);
+    is = unread.is ∙ ap (λ i. read_failed i (suc (lines_given new.below))) begins.input_is;
+    cause = elim unread.cause [ inl failed ↦ inl (ap device.has_failed (sym ended) ∙ failed) | inr past ↦ inr (omega (arith, counted, past)) ];
+  }

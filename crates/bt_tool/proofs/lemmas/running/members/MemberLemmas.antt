@@ -1,26 +1,24 @@
 -- What a reader that was filled has become.
-use Rattle.bt_lines.proofs.Std.{◌≡◌, None, IfSome_then, ℕ, suc, ◌+◌, ◌-◌, ◌≤◌, Bool, true, false, List, [], ◌∷◌, ◌++◌, length, take, drop, Option, Some, Err, refl, sym, ap, ◌∙◌, subst, append_assoc, append-nil, arith, inl, inr, ◌⊎◌, All, IfSome, IsSome, option_map, drop-drop, length-append, length-drop, map-append, take-append-drop, All-append, All-nil, Ok, All-push}
+use Rattle.bt_lines.proofs.Std.{◌≡◌, None, ℕ, suc, ◌+◌, ◌-◌, ◌≤◌, true, false, List, [], ◌∷◌, ◌++◌, length, take, drop, Option, Some, Err, refl, sym, ap, ◌∙◌, subst, append_assoc, append-nil, arith, inl, inr, ◌⊎◌, All, drop-drop, length-append, length-drop, map-append, take-append-drop, All-append, All-nil, Ok, All-push}
 use Rattle.bt_lines.specs.declared.device.Source.{Ghosts as Source}
 use Rattle.bt_lines.specs.model.Fault.{FaultValue, read_failed}
-use Rattle.bt_lines.specs.calls.Reader.{IsKept, Hands, bytes_left, end_told, has_ended, held, left_at, source_of, input_of, lines_given, lines_left, GivesLine}
+use Rattle.bt_lines.specs.calls.Reader.{IsKept, Hands, MayStillCome, end_told, has_ended, held, input_of, lines_coming, lines_given, GivesLine}
 use Rattle.bt_bed.specs.model.Good.{Member, Format, Good, ends_with, good_after}
 use Rattle.bt_bed.specs.model.BedLine.{fault_at_line}
-use Rattle.bt_bed.specs.calls.Reading.{AnswersFault, EndsMembers, GivesMember, MemberReader, IsBeyond, AreSaid, Cause, ahead_in, first_from, good_coming, members_from, state_behind}
+use Rattle.bt_bed.specs.calls.Reading.{AnswersFault, EndsMembers, GivesMember, MemberReader, IsBeyond, AreSaid, Cause, ahead_in, coming, first_from, members_from, state_behind, with_members}
 use Rattle.bt_lines.specs.model.Lines.{TextLine, bytes_in, lines_from}
 use Rattle.bt_lines.specs.calls.Output.{block_size}
 use Rattle.bt_lines.specs.declared.fault.Input.{Input}
 use Rattle.bt_lines.specs.declared.fault.Kind.{Kind}
 use Rattle.bt_lines.specs.declared.reader.line_reader.LineReader.{LineReader}
 use Rattle.bt_lines.specs.inside.ReadBuffer.{unread}
-use Rattle.bt_lines.proofs.lemmas.reader.block.ReadsLemmas.{hands_none, hands_both}
-use Rattle.bt_lines.proofs.lemmas.reader.lines.LeftLemmas.{GivesFirst, given_left, near_left}
+use Rattle.bt_lines.proofs.lemmas.reader.block.ReadsLemmas.{comes_before, hands_none, hands_both}
 use Rattle.bt_lines.proofs.lemmas.reader.lines.TakingLemmas.{sound_near}
 use Rattle.bt_lines.proofs.lemmas.reader.lines.TextLemmas.{bytes_in-append}
-use Rattle.bt_tool.specs.inside.Feed.{IsFresh, AreAll, ComeFirst, HasFaultBehind, HasTaken, IsReadFor, LacksMemory, PassesMembers, StopsAfter, member_items}
-use Rattle.bt_bed.proofs.lemmas.read.good.ReadingLemmas.{LineCame, one_passes}
-use Rattle.bt_bed.proofs.lemmas.read.good.KnownLemmas.{first_known, good_known, lines_known, near_both, near_known, no_lines_known, none_comes_known, none_left_known, nothing_known, taken_known, wrong_known}
-use Rattle.bt_tool.proofs.lemmas.running.feed.WritingLemmas.{begins_beyond, begins_with, cuts_both, lines_on, near_from_start, up_to}
-use Rattle.bt_tool.proofs.lemmas.running.pair.StopLemmas.{beyond_now, stops_faulty, coming_is}
+use Rattle.bt_tool.specs.inside.Feed.{IsFresh, AreAll, HasFaultBehind, HasTaken, IsReadFor, LacksMemory, PassesMembers, IsLater, StopsAfter, WhateverComes, member_items}
+use Rattle.bt_bed.proofs.lemmas.read.good.ReadingLemmas.{LineCame, good_is, one_passes}
+use Rattle.bt_tool.proofs.lemmas.running.feed.WritingLemmas.{begins_beyond, begins_with, cuts_both, lines_on, members_both, near_from_start, up_to}
+use Rattle.bt_tool.proofs.lemmas.running.pair.StopLemmas.{beyond_now, stops_faulty}
 
 module _ {S A State : Type 0} (device : Source S) where
   -- the reader has a member buffered
@@ -45,8 +43,29 @@ module _ {S A State : Type 0} (device : Source S) where
 pub nothing_ahead : {S A State : Type 0} (reader : MemberReader S A State) (m : Member A) → reader.buffered ≡ [] → ahead_in reader ≡ Some m → ⊥
 nothing_ahead reader m none is = let apart : None ≡ Some m = sym (ap (first_from (suc (lines_given reader.below))) none) ∙ is in cc
 
-one_ahead : {A : Type 0} {ahead : Option (Member A)} {m x : Member A} → ahead ≡ Some m → ahead ≡ Some x → m ≡ x
+pub one_ahead : {A : Type 0} {ahead : Option (Member A)} {m x : Member A} → ahead ≡ Some m → ahead ≡ Some x → m ≡ x
 one_ahead e f = let both = sym e ∙ f in cc
+
+-- ---- what follows later
+
+-- nothing was handed over since
+pub later_same : {S : Type 0} (bytes : List ℕ) (now new : LineReader S) → (end_told now ≡ true → end_told new ≡ true) → IsLater bytes now bytes new
+later_same bytes now new keeps rest follows = (rest, λ told. follows (keeps told), refl)
+
+-- or these bytes were
+pub later_then : {S : Type 0} (device : Source S) (bytes : List ℕ) {more : List ℕ} {now new : LineReader S} → Hands device now more new → IsLater bytes now (bytes ++ more) new
+later_then device bytes {more} hands rest follows = (more ++ rest, comes_before device hands rest follows, append_assoc bytes more rest)
+
+-- later still
+pub later_both : {S : Type 0} (first second third : List ℕ) (old now new : LineReader S) → IsLater first old second now → IsLater second now third new → IsLater first old third new
+later_both first second third old now new one two rest follows =
+    let far = two rest follows in
+    let near = one far.0 far.1 in
+    (near.0, near.1, far.2 ∙ near.2)
+
+-- what is so whatever follows is so later
+pub whatever_later : {S A State : Type 0} (old now new : MemberReader S A State) (bytes all : List ℕ) (P : Good A → Type 0) → IsLater bytes now.below all new.below → WhateverComes old bytes now P → WhateverComes old all new P
+whatever_later old now new bytes all P later so rest follows = let there = later rest follows in subst (λ l. P (coming l old)) (sym there.2) (so there.0 there.1)
 
 -- ---- lists of items and of members
 
@@ -79,78 +98,29 @@ members_last : {A : Type 0} (from : ℕ) (xs : List A) (a : A) → members_from 
 members_last {A} from [] a = ap (λ (n : ℕ). record { line = n; item = a } ∷ []) (let none : from ≡ from + 0 = omega arith in none)
 members_last {A} from (x ∷ xs) a = grind (arith, (members_last (suc from) xs a))
 
-coming_known : {S A State : Type 0} (device : Source S) (old new : MemberReader S A State) (bytes : List ℕ) → Hands device old.below bytes new.below
-    → IsSome (good_coming device.left old) → IsSome (good_coming device.left new)
-unfolding good_coming bytes_left
-coming_known device old new bytes hands k = grind arith
-
-bytes_known : {S : Type 0} (device : Source S) (old new : LineReader S) (bytes : List ℕ) → Hands device old bytes new → IsSome (lines_left device.left old) → IsSome (device.left (source_of new))
-unfolding bytes_left
-bytes_known device old new bytes hands k = grind arith
-
-ended_held : {S : Type 0} (reader : LineReader S) → has_ended reader ≡ true → held reader ≡ []
-unfolding has_ended held
-ended_held reader e = grind arith
-
-none_left_by : (told : Bool) (number : ℕ) (bytes : List ℕ) (left : Option (List ℕ)) → told ≡ true → bytes ≡ [] → IsSome left → option_map (lines_from number) (left_at told bytes left) ≡ Some []
-unfolding lines_from
-none_left_by told number bytes left e h k = grind arith
-
--- once the end was reached, no line is left
-none_left_told : {S : Type 0} (left : S → Option (List ℕ)) (reader : LineReader S) → end_told reader ≡ true → has_ended reader ≡ true → IsSome (left (source_of reader)) → lines_left left reader ≡ Some []
-unfolding bytes_left
-none_left_told left reader e ended k = none_left_by (end_told reader) (suc (lines_given reader)) (held reader) (left (source_of reader)) e (ended_held reader ended) k
-
-lines_end : (old new : Option (List TextLine)) (count : ℕ) → (IsSome old → new ≡ Some []) → IfSome old (λ lines. drop count lines ≡ []) → IfSome old (λ lines. new ≡ Some (drop count lines))
-lines_end old new count e d = grind arith
-
--- at the end nothing more is to come
-come_end : {A : Type 0} (old now new : Option (Good A)) (past : List (Member A)) → ComeFirst old past now → (IsSome now → IsSome new)
-    → IfSome now (λ good. good ≡ ends_with None) → IfSome new (λ good. good ≡ ends_with None) → ComeFirst old past new
-come_end old now new past c k e f = grind arith
+-- once the end was reached, no line comes
+none_coming : {S : Type 0} (reader : LineReader S) → has_ended reader ≡ true → lines_coming [] reader ≡ []
+unfolding has_ended held lines_coming lines_from
+none_coming reader e = grind arith
 
 -- if no line is left after those given later, there are no more than these
-no_more : (start now : Option (List TextLine)) (given later : ℕ) → given ≤ later
-    → IfSome start (λ lines. now ≡ Some (drop given lines))
-    → IfSome now (λ lines. drop (later - given) lines ≡ [])
-    → IfSome start (λ lines. length lines ≤ later)
-no_more None now given later h p e = tt
-no_more (Some start) None given later h p e = cc
-no_more (Some start) (Some now) given later h p e = grind (arith, (length-drop given start), (length-drop (later - given) now))
+no_more : (start now : List TextLine) (given later : ℕ) → given ≤ later → now ≡ drop given start → drop (later - given) now ≡ [] → length start ≤ later
+no_more start now given later h p e = grind (arith, (length-drop given start), (length-drop (later - given) now))
 
 -- more lines leave no more
-pub near_more : (lines : Option (List TextLine)) (rest : Option (List ℕ)) (count more : ℕ) → count ≤ more → IfSome lines (λ lines. IfSome rest (λ rest. bytes_in (drop count lines) ≤ length rest + block_size))
-    → IfSome lines (λ lines. IfSome rest (λ rest. bytes_in (drop more lines) ≤ length rest + block_size))
-near_more None rest count more up h = tt
-near_more (Some lines) None count more up h = tt
-near_more (Some lines) (Some rest) count more up h =
+pub near_more : (lines : List TextLine) (count more bound : ℕ) → count ≤ more → bytes_in (drop count lines) ≤ bound → bytes_in (drop more lines) ≤ bound
+near_more lines count more bound up h =
     let both = bytes_in-append (take (more - count) (drop count lines)) (drop (more - count) (drop count lines)) in
     grind (arith, take-append-drop, drop-drop)
 
-near_none : (start now : Option (List TextLine)) (rest : Option (List ℕ)) (given count : ℕ) → given ≤ count → IfSome start (λ lines. now ≡ Some (drop given lines))
-    → IfSome now (λ lines. drop (count - given) lines ≡ []) → IfSome start (λ lines. IfSome rest (λ rest. bytes_in (drop (suc count) lines) ≤ length rest + block_size))
-near_none start now rest given count h p e =
-    near_both start now rest given (suc count - given) (suc count) p (omega arith) (IfSome_then now e (λ lines none. near_done lines rest (count - given) (suc count - given) (omega arith) none))
-  where
-    near_done : (lines : List TextLine) (rest : Option (List ℕ)) (count more : ℕ) → more ≡ count + 1 → drop count lines ≡ [] → IfSome rest (λ rest. bytes_in (drop more lines) ≤ length rest + block_size)
-    near_done lines None count more same none = tt
-    near_done lines (Some rest) count more same none = omega (arith, ap (λ n. bytes_in (drop n lines)) same, ap bytes_in (sym (drop-drop 1 count lines) ∙ ap (drop 1) none))
-
--- of the lines after those given, at most a block was taken
-pub near_given : (start now : Option (List TextLine)) (rest : Option (List ℕ)) (given : ℕ) → IfSome start (λ lines. now ≡ Some (drop given lines))
-    → IfSome now (λ lines. IfSome rest (λ rest. bytes_in lines ≤ length rest + block_size))
-    → IfSome start (λ lines. IfSome rest (λ rest. bytes_in (drop given lines) ≤ length rest + block_size))
-near_given start now rest given p n = near_both start now rest given 0 given p (omega arith) n
-
 -- a line at fault comes after the members that were taken
-all_behind : {A : Type 0} (old now : Option (Good A)) (past : List (Member A)) (fault : FaultValue) → ComeFirst old past now → IfSome now (λ good. good ≡ ends_with (Some fault))
-    → IfSome old (λ good. (good.members ≡ past) × (good.fault ≡ Some fault))
+all_behind : {A : Type 0} (old now : Good A) (past : List (Member A)) (fault : Option FaultValue) → old ≡ with_members past now → now ≡ ends_with fault → (old.members ≡ past) × (old.fault ≡ fault)
 all_behind old now past fault come wrong = grind (arith, append-nil)
 
 -- the last of some members lies after those lines too, and so does what comes after it
-pub behind_last : {A : Type 0} (count : ℕ) (old : Option (Good A)) (past : List (Member A)) (m : Member A) → suc count ≡ m.line
-    → IfSome old (λ good. (rest : List (Member A)) × (good.members ≡ (past ++ m ∷ []) ++ rest) × IsBeyond (suc count) (record { members = rest; fault = good.fault }))
-    → IfSome old (λ good. (rest : List (Member A)) × (good.members ≡ past ++ rest) × IsBeyond count (record { members = rest; fault = good.fault }))
+pub behind_last : {A : Type 0} (count : ℕ) (old : Good A) (past : List (Member A)) (m : Member A) → suc count ≡ m.line
+    → (more : List (Member A)) × (old.members ≡ (past ++ m ∷ []) ++ more) × IsBeyond (suc count) (record { members = more; fault = old.fault })
+    → (more : List (Member A)) × (old.members ≡ past ++ more) × IsBeyond count (record { members = more; fault = old.fault })
 behind_last count old past m at b = grind (arith, append_assoc)
 
 module _ {S A State : Type 0} (device : Source S) (old : MemberReader S A State) where
@@ -161,44 +131,62 @@ module _ {S A State : Type 0} (device : Source S) (old : MemberReader S A State)
     bytes = ([], hands_none device old.below);
     said = tt;
     state = refl;
-    come = grind arith;
+    come = λ rest follows. refl;
     behind = λ k d h. absurd (omega arith);
-    lines = grind arith;
+    lines = λ rest follows. rw fresh.none_given.0 refl;
     going = fresh.going;
     clear = fresh.clear;
     kept = record { end = fresh.sound.end; within = fresh.sound.within };
     served = refl;
-    ahead = λ known m is. absurd (nothing_ahead old m fresh.none_buffered is);
-    near = near_more (lines_left device.left old.below) (device.left (source_of old.below)) 0 (suc (lines_given old.below)) (omega arith) (near_left device old.below old.below (hands_none device old.below) 0 (λ rest follows. sound_near device old.below fresh.sound fresh.clear rest));
+    ahead = λ m is. absurd (nothing_ahead old m fresh.none_buffered is);
+    near = λ rest follows. near_more (lines_coming rest old.below) 0 (suc (lines_given old.below)) (length rest + block_size) (omega arith) (sound_near device old.below fresh.sound fresh.clear rest);
   }
 
   module _ (past : List (Member A)) (now : MemberReader S A State) (g : PassesMembers device old past now) where
-    pub bytes_more : (new : MemberReader S A State) → (bytes : List ℕ) × Hands device now.below bytes new.below → (bytes : List ℕ) × Hands device old.below bytes new.below
+    abbrev pub bytes_more : (new : MemberReader S A State) → (bytes : List ℕ) × Hands device now.below bytes new.below → (bytes : List ℕ) × Hands device old.below bytes new.below
     bytes_more new hands = (g.bytes.0 ++ hands.0, hands_both device old.below now.below new.below g.bytes.0 hands.0 g.bytes.1 hands.1)
 
+    -- nothing more was handed over
+    abbrev pub bytes_still : (new : MemberReader S A State) → Hands device now.below [] new.below → (bytes : List ℕ) × Hands device old.below bytes new.below
+    bytes_still new hands = (
+      g.bytes.0,
+      subst (λ bytes. Hands device old.below bytes new.below) (append-nil g.bytes.0) (hands_both device old.below now.below new.below g.bytes.0 [] g.bytes.1 hands),
+    )
+
+    -- what came before a call comes after the members that were consumed, behind the bytes of the call
+    module _ {new : LineReader S} {bytes : List ℕ} (hands : Hands device now.below bytes new) (rest : List ℕ) (follows : MayStillCome new rest) where
+      pub come_then : coming ((g.bytes.0 ++ bytes) ++ rest) old ≡ with_members past (coming (bytes ++ rest) now)
+      come_then = rw (append_assoc g.bytes.0 bytes rest) (g.come (bytes ++ rest) (comes_before device hands rest follows))
+
+      pub lines_then : lines_coming (bytes ++ rest) now.below ≡ drop (lines_given now.below) (lines_coming ((g.bytes.0 ++ bytes) ++ rest) old.below)
+      lines_then = rw (append_assoc g.bytes.0 bytes rest) (g.lines (bytes ++ rest) (comes_before device hands rest follows))
+
     -- a member is buffered
-    pub passes_fill : (new : MemberReader S A State) → IsFilled device now new → PassesMembers device old past new
+    unfoldable pub passes_fill : (new : MemberReader S A State) → IsFilled device now new → PassesMembers device old past new
     passes_fill new fills =
         let gives = fills.gives in
+        let hands = gives.stays.bytes.1 in
         record {
           format = gives.stays.format ∙ g.format;
           bytes = bytes_more new gives.stays.bytes;
           said = g.said;
-          come = grind (arith, (good_known device now new gives));
+          come = λ rest follows. come_then hands rest follows ∙ ap (with_members past) (gives.good rest follows);
           behind = up_to (lines_given now.below) (lines_given new.below) past gives.rises g.behind;
-          lines = lines_on (lines_left device.left old.below) (lines_left device.left now.below) (lines_left device.left new.below) (lines_given now.below) (lines_given new.below) gives.rises g.lines (lines_known device now.below new.below gives.stays.bytes.1 gives.lines);
+          lines = λ rest follows. lines_on (lines_coming ((g.bytes.0 ++ gives.stays.bytes.0) ++ rest) old.below) (lines_coming (gives.stays.bytes.0 ++ rest) now.below) (lines_coming rest new.below) (lines_given now.below) (lines_given new.below) gives.rises (lines_then hands rest follows) (gives.lines rest follows);
           state = gives.state ∙ g.state;
           going = gives.goes ∙ g.going;
           clear = gives.below_goes;
           kept = fills.kept g.kept;
           served = gives.served ∙ g.served;
-          ahead = λ known m is. let same : fills.m ≡ m = one_ahead gives.ahead is in subst (λ (m : Member A). IfSome (good_coming device.left new) (λ good. (rest : List (Member A)) × (good.members ≡ m ∷ rest))) same
-              (grind (arith, (good_known device now new gives), (first_known device now new gives)));
-          near = near_from_start (lines_left device.left old.below) (lines_left device.left now.below) (device.left (source_of new.below)) (lines_given now.below) (lines_given new.below) gives.rises g.lines (near_known device now.below new.below gives.stays.bytes.1 gives.near);
+          ahead = λ m is rest follows.
+              let same : fills.m ≡ m = one_ahead gives.ahead is in
+              let first = gives.first rest follows in
+              (first.0, ap (λ (good : Good A). good.members) (sym (gives.good rest follows)) ∙ first.1 ∙ ap (λ (m : Member A). m ∷ first.0) same);
+          near = λ rest follows. near_from_start (lines_coming ((g.bytes.0 ++ gives.stays.bytes.0) ++ rest) old.below) (lines_coming (gives.stays.bytes.0 ++ rest) now.below) (lines_given now.below) (lines_given new.below) (length rest + block_size) gives.rises (lines_then hands rest follows) (gives.near rest follows);
         }
 
     -- members were taken
-    pub passes_take : (taken : List A) (new : MemberReader S A State) → HasTaken device now taken new
+    unfoldable pub passes_take : (taken : List A) (new : MemberReader S A State) → HasTaken device now taken new
         → PassesMembers device old (past ++ members_from (suc (lines_given now.below)) taken) new
     passes_take taken new has =
         let takes = has.takes in
@@ -206,111 +194,145 @@ module _ {S A State : Type 0} (device : Source S) (old : MemberReader S A State)
         let rises : lines_given now.below ≤ lines_given new.below = omega (arith, takes.given) in
         record {
           format = takes.format ∙ g.format;
-          bytes = bytes_more new ([], takes.hands);
+          bytes = bytes_still new takes.hands;
           said = rw items (said_more old.format old.state (member_items past) taken g.said
               (subst (λ (f : Format A State). AreSaid f (state_behind old.format old.state (member_items past)) taken) g.format
               (subst (λ (s : State). AreSaid now.format s taken) g.state takes.said)));
-          come = grind (arith, append_assoc, (taken_known device now new takes));
+          come = λ rest follows.
+              g.come rest (comes_before device takes.hands rest follows) ∙ ap (with_members past) (takes.good rest follows)
+              ∙ members_both past (members_from (suc (lines_given now.below)) taken) (coming rest new);
           behind = All-append (λ (m : Member A). m.line ≤ lines_given new.below) past (members_from (suc (lines_given now.below)) taken)
               (up_to (lines_given now.below) (lines_given new.below) past rises g.behind)
               (up_to (lines_given now.below + length taken) (lines_given new.below) (members_from (suc (lines_given now.below)) taken) (omega (arith, takes.given)) (members_low (lines_given now.below) taken));
-          lines = lines_on (lines_left device.left old.below) (lines_left device.left now.below) (lines_left device.left new.below) (lines_given now.below) (lines_given new.below) rises g.lines (lines_known device now.below new.below takes.hands takes.lines);
+          lines = λ rest follows. lines_on (lines_coming (g.bytes.0 ++ rest) old.below) (lines_coming rest now.below) (lines_coming rest new.below) (lines_given now.below) (lines_given new.below) rises (g.lines rest (comes_before device takes.hands rest follows)) (takes.lines rest follows);
           state = takes.state ∙ ap (λ (f : Format A State). state_behind f now.state taken) g.format ∙ ap (λ (s : State). state_behind old.format s taken) g.state
               ∙ sym (state_more old.format old.state (member_items past) taken) ∙ ap (state_behind old.format old.state) (sym items);
           going = takes.goes ∙ g.going;
           clear = takes.below_stays ∙ g.clear;
           kept = takes.kept g.kept;
           served = ap device.has_failed takes.source ∙ g.served;
-          ahead = λ known. has.ahead;
-          near = rw takes.source (near_more (lines_left device.left old.below) (device.left (source_of now.below)) (suc (lines_given now.below)) (suc (lines_given new.below)) (omega (arith, takes.given)) g.near);
+          ahead = has.ahead;
+          near = λ rest follows. near_more (lines_coming (g.bytes.0 ++ rest) old.below) (suc (lines_given now.below)) (suc (lines_given new.below)) (length rest + block_size) (omega (arith, takes.given)) (g.near rest (comes_before device takes.hands rest follows));
         }
 
     -- the input has ended
-    pub passes_all : (new : MemberReader S A State) → IsOver device now new → AreAll device old past
-    passes_all new ended = grind (arith, append-nil, (none_left_known device now new ended.ends))
+    module _ (new : MemberReader S A State) (ended : IsOver device now new) where
+      abbrev last_bytes : List ℕ
+      last_bytes = ended.ends.stays.bytes.0
 
-    pub passes_end : (new : MemberReader S A State) → IsOver device now new → PassesMembers device old past new
-    passes_end new ended = record {
-      format = ended.ends.stays.format ∙ g.format;
-      bytes = bytes_more new ended.ends.stays.bytes;
-      said = g.said;
-      come = come_end (good_coming device.left old) (good_coming device.left now) (good_coming device.left new) past g.come
-          (coming_known device now new ended.ends.stays.bytes.0 ended.ends.stays.bytes.1) (none_left_known device now new ended.ends) (none_comes_known device now new ended.ends);
-      behind = up_to (lines_given now.below) (lines_given new.below) past ended.ends.rises g.behind;
-      lines = lines_on (lines_left device.left old.below) (lines_left device.left now.below) (lines_left device.left new.below) (lines_given now.below) (lines_given new.below) ended.ends.rises g.lines
-          (lines_end (lines_left device.left now.below) (lines_left device.left new.below) (lines_given new.below - lines_given now.below)
-          (λ k. none_left_told device.left new.below ended.ends.told ended.ends.ends (bytes_known device now.below new.below ended.ends.stays.bytes.0 ended.ends.stays.bytes.1 k)) (no_lines_known device now new ended.ends));
-      state = ended.ends.state ∙ g.state;
-      going = ended.ends.goes;
-      clear = ended.ends.below_goes;
-      kept = ended.kept g.kept;
-      served = ended.ends.served ∙ g.served;
-      ahead = λ known m is. absurd (nothing_ahead new m ended.ends.none_buffered is);
-      near = near_none (lines_left device.left old.below) (lines_left device.left now.below) (device.left (source_of new.below)) (lines_given now.below) (lines_given new.below) ended.ends.rises g.lines (no_lines_known device now new ended.ends);
-    }
+      -- nothing follows
+      none_follows : (rest : List ℕ) → MayStillCome new.below rest → last_bytes ++ rest ≡ last_bytes
+      none_follows rest follows = ap (λ l. last_bytes ++ l) (follows ended.ends.told) ∙ append-nil last_bytes
+
+      pub ends_then : (rest : List ℕ) → MayStillCome new.below rest → coming ((g.bytes.0 ++ last_bytes) ++ rest) old ≡ with_members past (ends_with None)
+      ends_then rest follows = come_then ended.ends.stays.bytes.1 rest follows ∙ ap (with_members past) (ap (λ l. coming l now) (none_follows rest follows) ∙ ended.ends.none_left)
+
+      lines_end : (rest : List ℕ) → MayStillCome new.below rest → drop (lines_given new.below - lines_given now.below) (lines_coming (last_bytes ++ rest) now.below) ≡ []
+      lines_end rest follows = ap (λ l. drop (lines_given new.below - lines_given now.below) (lines_coming l now.below)) (none_follows rest follows) ∙ ended.ends.lines
+
+      pub none_now : (rest : List ℕ) → MayStillCome new.below rest → lines_coming rest new.below ≡ []
+      none_now rest follows = ap (λ l. lines_coming l new.below) (follows ended.ends.told) ∙ none_coming new.below ended.ends.ends
+
+      pub all_lines : (rest : List ℕ) → MayStillCome new.below rest → lines_coming rest new.below ≡ drop (lines_given new.below) (lines_coming ((g.bytes.0 ++ last_bytes) ++ rest) old.below)
+      all_lines rest follows = lines_on (lines_coming ((g.bytes.0 ++ last_bytes) ++ rest) old.below) (lines_coming (last_bytes ++ rest) now.below) (lines_coming rest new.below) (lines_given now.below) (lines_given new.below) ended.ends.rises
+          (lines_then ended.ends.stays.bytes.1 rest follows) (none_now rest follows ∙ sym (lines_end rest follows))
+
+      pub passes_all : AreAll device old (g.bytes.0 ++ last_bytes) past new
+      passes_all rest follows = all_behind (coming ((g.bytes.0 ++ last_bytes) ++ rest) old) (ends_with None) past None (ends_then rest follows) refl
+
+      unfoldable pub passes_end : PassesMembers device old past new
+      passes_end = record {
+        format = ended.ends.stays.format ∙ g.format;
+        bytes = bytes_more new ended.ends.stays.bytes;
+        said = g.said;
+        come = λ rest follows. ends_then rest follows ∙ ap (with_members past) (sym (ap (λ l. coming l new) (follows ended.ends.told) ∙ ended.ends.none_comes));
+        behind = up_to (lines_given now.below) (lines_given new.below) past ended.ends.rises g.behind;
+        lines = all_lines;
+        state = ended.ends.state ∙ g.state;
+        going = ended.ends.goes;
+        clear = ended.ends.below_goes;
+        kept = ended.kept g.kept;
+        served = ended.ends.served ∙ g.served;
+        ahead = λ m is. absurd (nothing_ahead new m ended.ends.none_buffered is);
+        near = λ rest follows. near_more (lines_coming ((g.bytes.0 ++ last_bytes) ++ rest) old.below) (lines_given new.below) (suc (lines_given new.below)) (length rest + block_size) (omega arith)
+            (omega (arith, ap bytes_in (sym (all_lines rest follows) ∙ none_now rest follows)));
+      }
 
     -- nothing is read after the end
     pub fails_before_end : (new : MemberReader S A State) (fault : FaultValue) → IsStopped device now fault new → (input : Input) (line : ℕ) → fault ≡ read_failed input line → end_told now.below ≡ false
     fails_before_end new fault stopped input line e = grind arith
 
     module _ (kinds : Kind → Type 0) (of_format : (state : State) (line : TextLine) (kind : Kind) → old.format.says state line ≡ Err kind → kinds kind) where
-      cause_of : (new : MemberReader S A State) (fault : FaultValue) → IsKept device new.below → (answers : AnswersFault device now fault new)
+      pub cause_of : (new : MemberReader S A State) (fault : FaultValue) → IsKept device new.below → (answers : AnswersFault device now fault new)
           → Cause device now answers.stays.bytes.0 fault new
-          → HasFaultBehind device old kinds past fault new ⊎ LacksMemory device old fault new
+          → HasFaultBehind device old kinds (g.bytes.0 ++ answers.stays.bytes.0) past fault new ⊎ LacksMemory device old fault new
       cause_of new fault kept answers (inl at) = inl (inl (record {
-        whole = all_behind (good_coming device.left old) (good_coming device.left now) past fault g.come (wrong_known device now new answers.stays.bytes.1 at);
+        whole = λ rest follows. all_behind (coming ((g.bytes.0 ++ answers.stays.bytes.0) ++ rest) old) (ends_with (Some fault)) past (Some fault)
+            (come_then answers.stays.bytes.1 rest follows ∙ ap (with_members past) (at.none_left rest follows)) refl;
         line = lines_given new.below;
         kind = at.kind;
         is = at.place ∙ ap (λ input. fault_at_line input (lines_given new.below) at.kind) (g.bytes.1.same_input);
         of_kind = of_format now.state at.line at.kind (subst (λ (f : Format A State). f.says now.state at.line ≡ Err at.kind) g.format at.says);
         served = at.served ∙ g.served;
+        clear = at.going;
         within = kept.within at.going;
       }))
       cause_of new fault kept answers (inr (inl unread)) = inl (inr (record {
         is = unread.fails.is ∙ ap (λ input. read_failed input (suc (lines_given new.below))) (g.bytes.1.same_input);
         kept = answers.kept;
         cause = unread.fails.cause;
-        cut = (g.bytes.0 ++ answers.stays.bytes.0, hands_both device old.below now.below new.below g.bytes.0 answers.stays.bytes.0 g.bytes.1 answers.stays.bytes.1, cuts_both device old.below now.below new.below g.bytes.0 g.bytes.1 unread.fails.before_end (g.kept.within g.clear) answers.stays.bytes.0 answers.stays.bytes.1 (unread.fails.cut g.kept));
-        members = begins_beyond (good_coming device.left old) (good_coming device.left now) past (lines_given new.below) g.come (nothing_known device now new answers.stays.bytes.1 unread.passed);
+        cut = cuts_both device old.below now.below new.below g.bytes.0 g.bytes.1 unread.fails.before_end (g.kept.within g.clear) answers.stays.bytes.0 answers.stays.bytes.1 (unread.fails.cut g.kept);
+        members = λ rest follows. begins_beyond (coming ((g.bytes.0 ++ answers.stays.bytes.0) ++ rest) old) (coming (answers.stays.bytes.0 ++ rest) now) past (lines_given new.below)
+            (come_then answers.stays.bytes.1 rest follows) (unread.passed rest follows);
         behind = up_to (lines_given now.below) (lines_given new.below) past answers.rises g.behind;
       }))
       cause_of new fault kept answers (inr (inr ran)) = inr (record { is = ran.is; served = ran.served ∙ g.served })
 
       -- it reports a fault
-      pub passes_stop : (new : MemberReader S A State) (fault : FaultValue) → IsStopped device now fault new
+      abbrev pub passes_stop : (new : MemberReader S A State) (fault : FaultValue) → IsStopped device now fault new
           → StopsAfter device old kinds past fault new
-      passes_stop new fault stopped = grind (arith, bytes_more, cause_of)
+      passes_stop new fault stopped = record {
+        bytes = bytes_more new stopped.answers.stays.bytes;
+        cause = cause_of new fault (stopped.kept g.kept) stopped.answers (stopped.answers.first g.going);
+      }
 
     -- how far the input was read
-    unfoldable pub read_here : IsReadFor device old past past now
+    unfoldable pub read_here : IsReadFor device old g.bytes.0 past past now
     read_here = record {
       to = record {
         count = lines_given now.below;
         near = g.near;
-        behind = begins_beyond (good_coming device.left old) (good_coming device.left now) past (lines_given now.below) g.come (beyond_now device.left now g.going);
+        behind = λ rest follows. begins_beyond (coming (g.bytes.0 ++ rest) old) (coming rest now) past (lines_given now.below) (g.come rest follows) (beyond_now device now g.going rest);
       };
       low = g.behind;
       high = up_to (lines_given now.below) (suc (lines_given now.below)) past (omega arith) g.behind;
-      begins = begins_with (good_coming device.left old) (good_coming device.left now) past g.come;
+      begins = λ rest follows. begins_with (coming (g.bytes.0 ++ rest) old) (coming rest now) past (g.come rest follows);
     }
 
     -- and there are no more lines at its end
-    pub ended_after_all : (new : MemberReader S A State) → IsOver device now new → IfSome (lines_left device.left old.below) (λ lines. length lines ≤ lines_given new.below)
-    ended_after_all new over = no_more (lines_left device.left old.below) (lines_left device.left now.below) (lines_given now.below) (lines_given new.below) over.ends.rises g.lines (no_lines_known device now new over.ends)
+    pub ended_after_all : (new : MemberReader S A State) (over : IsOver device now new) → length (lines_coming (g.bytes.0 ++ over.ends.stays.bytes.0) old.below) ≤ lines_given new.below
+    ended_after_all new over =
+        no_more (lines_coming (g.bytes.0 ++ over.ends.stays.bytes.0) old.below) (lines_coming over.ends.stays.bytes.0 now.below) (lines_given now.below) (lines_given new.below) over.ends.rises
+        (g.lines over.ends.stays.bytes.0 (still over.ends.stays.bytes.1)) over.ends.lines
+      where
+        still : {bytes : List ℕ} → Hands device now.below bytes new.below → MayStillCome now.below bytes
+        still {bytes} hands told = sym (append-nil bytes) ∙ comes_before device hands [] (λ e. refl) told
 
     -- if it stops at a fault
-    pub read_at_stop : (new : MemberReader S A State) (fault : FaultValue) → IsStopped device now fault new → IsReadFor device old past past new
+    pub read_at_stop : (new : MemberReader S A State) (fault : FaultValue) (stopped : IsStopped device now fault new) → IsReadFor device old (g.bytes.0 ++ stopped.answers.stays.bytes.0) past past new
     read_at_stop new fault stopped =
+        let bytes = stopped.answers.stays.bytes.0 in
+        let hands = stopped.answers.stays.bytes.1 in
         let stops = stops_faulty device now g.going g.kept new fault stopped.answers (stopped.kept g.kept) in
         record {
           to = record {
             count = stops.0;
-            near = near_from_start (lines_left device.left old.below) (lines_left device.left now.below) (device.left (source_of new.below)) (lines_given now.below) stops.0 stops.1.from g.lines stops.1.near;
-            behind = begins_beyond (good_coming device.left old) (good_coming device.left now) past stops.0 g.come stops.1.passed;
+            near = λ rest follows. near_from_start (lines_coming ((g.bytes.0 ++ bytes) ++ rest) old.below) (lines_coming (bytes ++ rest) now.below) (lines_given now.below) stops.0 (length rest + block_size) stops.1.from (lines_then hands rest follows) (stops.1.near rest follows);
+            behind = λ rest follows. begins_beyond (coming ((g.bytes.0 ++ bytes) ++ rest) old) (coming (bytes ++ rest) now) past stops.0 (come_then hands rest follows) (stops.1.passed rest follows);
           };
           low = up_to (lines_given now.below) stops.0 past stops.1.from g.behind;
           high = up_to (lines_given now.below) (suc stops.0) past (let from = stops.1.from in omega arith) g.behind;
-          begins = begins_with (good_coming device.left old) (good_coming device.left now) past g.come;
+          begins = λ rest follows. begins_with (coming ((g.bytes.0 ++ bytes) ++ rest) old) (coming (bytes ++ rest) now) past (come_then hands rest follows);
         }
 
   -- members were taken: how far the input was read beside those before the last one
@@ -327,35 +349,35 @@ module _ {S A State : Type 0} (device : Source S) (old : MemberReader S A State)
     all_is : past ++ members_from from (xs ++ a ∷ []) ≡ before ++ m ∷ []
     all_is = ap (λ (l : List (Member A)). past ++ l) (members_last from xs a) ∙ sym (append_assoc past (members_from from xs) (m ∷ []))
 
-    pub read_before : IsReadFor device old before (past ++ members_from from (xs ++ a ∷ [])) new
-    unfolding lines_given read_here
+    pub read_before : IsReadFor device old g.bytes.0 before (past ++ members_from from (xs ++ a ∷ [])) new
+    unfolding lines_given read_here passes_take
     read_before =
         let p = passes_take past now g (xs ++ a ∷ []) new has in
         let size = length-append xs (a ∷ []) in
         let count = lines_given now.below + length xs in
         let given : suc count ≡ lines_given new.below = omega (arith, has.takes.given, size) in
-        let near = near_left device new.below new.below (hands_none device new.below) 0
-        (λ rest follows. sound_near device new.below (record { end = p.kept.end; within = p.kept.within; near = λ none. has.takes.near (omega (arith, size)) }) p.clear rest) in
+        let near : (rest : List ℕ) → bytes_in (lines_coming rest new.below) ≤ length rest + block_size =
+        λ rest. sound_near device new.below (record { end = p.kept.end; within = p.kept.within; near = λ none. has.takes.near (omega (arith, size)) }) p.clear rest in
         record {
           to = record {
             count = count;
-            near = rw given (near_given (lines_left device.left old.below) (lines_left device.left new.below) (device.left (source_of new.below)) (lines_given new.below) p.lines near);
-            behind = behind_last count (good_coming device.left old) before m (omega arith)
-                (rw (← all_is, given) (read_here (past ++ members_from from (xs ++ a ∷ [])) new p).to.behind);
+            near = λ rest follows. rw given (rw (p.lines rest follows) at (near rest));
+            behind = λ rest follows. behind_last count (coming (g.bytes.0 ++ rest) old) before m (omega arith)
+                (rw (← all_is, given) ((read_here (past ++ members_from from (xs ++ a ∷ [])) new p).to.behind rest follows));
           };
           low = All-append (λ (m : Member A). m.line ≤ count) past (members_from from xs) (up_to (lines_given now.below) count past (omega arith) g.behind) (members_low (lines_given now.below) xs);
           high = up_to (lines_given new.below) (suc count) (past ++ members_from from (xs ++ a ∷ [])) (omega (arith, given)) p.behind;
-          begins = begins_with (good_coming device.left old) (good_coming device.left new) (past ++ members_from from (xs ++ a ∷ [])) p.come;
+          begins = λ rest follows. begins_with (coming (g.bytes.0 ++ rest) old) (coming rest new) (past ++ members_from from (xs ++ a ∷ [])) (p.come rest follows);
         }
 
 -- how far the input was read beside some members, whatever else was given
-pub read_alone : {S A State : Type 0} {device : Source S} {old : MemberReader S A State} {past given : List (Member A)} {now : MemberReader S A State}
-    → IsReadFor device old past given now → IsReadFor device old past past now
-read_alone {S} {A} {State} {device} {old} {past} {given} {now} read = record {
+pub read_alone : {S A State : Type 0} {device : Source S} {old : MemberReader S A State} {bytes : List ℕ} {past given : List (Member A)} {now : MemberReader S A State}
+    → IsReadFor device old bytes past given now → IsReadFor device old bytes past past now
+read_alone {past = past} read = record {
   to = read.to;
   low = read.low;
   high = up_to read.to.count (suc read.to.count) past (omega arith) read.low;
-  begins = IfSome_then (good_coming device.left old) read.to.behind (λ good b. (b.0, b.1));
+  begins = λ rest follows. (let b = read.to.behind rest follows in (b.0, b.1));
 }
 
 -- Lemmas on a reader of members that is given the next line: it says a member, or none.
@@ -376,45 +398,44 @@ came device old new line gives = record {
 }
 
 module _ {A State : Type 0} (format : Format A State) (input : Input) (state : State) where
-  none_comes : (old : Option (Good A)) (a b : Option (List TextLine)) (line : TextLine) (past : List (Member A)) → ComeFirst old past (option_map (good_after format input state) a) → GivesFirst a line b
-      → format.says state line ≡ Ok None → ComeFirst old past (option_map (good_after format input state) b)
+  none_comes : (a b : List TextLine) (line : TextLine) → a ≡ line ∷ b → format.says state line ≡ Ok None → good_after format input state a ≡ good_after format input state b
   unfolding good_after
-  none_comes old a b line past c g e = grind arith
+  none_comes a b line g e = grind arith
 
-  come_some : (old : Option (Good A)) (a b : Option (List TextLine)) (line : TextLine) (item : A) (past : List (Member A)) → ComeFirst old past (option_map (good_after format input state) a) → GivesFirst a line b
-      → format.says state line ≡ Ok (Some item) → ComeFirst old (past ++ record { line = line.number; item = item } ∷ []) (option_map (good_after format input (format.after state item)) b)
+  come_some : (a b : List TextLine) (line : TextLine) (item : A) → a ≡ line ∷ b → format.says state line ≡ Ok (Some item)
+      → good_after format input state a ≡ with_members (record { line = line.number; item = item } ∷ []) (good_after format input (format.after state item) b)
   unfolding good_after
-  come_some old a b line item past c g e = grind (arith, append_assoc)
+  come_some a b line item g e = grind arith
 
 module _ {S A State : Type 0} {device : Source S} {old now : MemberReader S A State} {past : List (Member A)} (g : PassesMembers device old past now) (new : MemberReader S A State) {line : TextLine}
     (gives : GivesLine device now.below line new.below) (kept : IsKept device now.below → IsKept device new.below) (format : new.format ≡ now.format) (none : new.buffered ≡ []) (going : new.fault ≡ None) where
-  lines_pass : IfSome (lines_left device.left now.below) (λ lines. lines_left device.left new.below ≡ Some (drop (lines_given new.below - lines_given now.below) lines))
-  lines_pass = lines_known device now.below new.below gives.bytes.1 (one_passes now.below new.below gives.bytes.0 line gives.bytes.3 gives.counted)
+  abbrev bytes : List ℕ
+  bytes = gives.bytes.0
 
   rises : lines_given now.below ≤ lines_given new.below
   rises = omega (arith, gives.counted)
 
-  lines : IfSome (lines_left device.left old.below) (λ lines. lines_left device.left new.below ≡ Some (drop (lines_given new.below) lines))
-  lines = lines_on (lines_left device.left old.below) (lines_left device.left now.below) (lines_left device.left new.below) (lines_given now.below) (lines_given new.below) rises g.lines lines_pass
+  lines : (rest : List ℕ) → MayStillCome new.below rest → lines_coming rest new.below ≡ drop (lines_given new.below) (lines_coming ((g.bytes.0 ++ bytes) ++ rest) old.below)
+  lines rest follows = lines_on (lines_coming ((g.bytes.0 ++ bytes) ++ rest) old.below) (lines_coming (bytes ++ rest) now.below) (lines_coming rest new.below) (lines_given now.below) (lines_given new.below) rises
+      (lines_then device old past now g gives.bytes.1 rest follows) (one_passes now.below new.below bytes line gives.bytes.3 gives.counted rest follows)
 
   -- at most a block is held after it
-  near_line : IfSome (lines_left device.left old.below) (λ lines. IfSome (device.left (source_of new.below)) (λ rest. bytes_in (drop (lines_given new.below) lines) ≤ length rest + block_size))
-  near_line =
+  near_line : (rest : List ℕ) → MayStillCome new.below rest → bytes_in (drop (lines_given new.below) (lines_coming ((g.bytes.0 ++ bytes) ++ rest) old.below)) ≤ length rest + block_size
+  near_line rest follows =
       let was = kept g.kept in
-      near_given (lines_left device.left old.below) (lines_left device.left new.below) (device.left (source_of new.below)) (lines_given new.below) lines
-      (near_left device new.below new.below (hands_none device new.below) 0 (λ rest follows. sound_near device new.below (record { end = was.end; within = was.within; near = λ fine. gives.ahead }) gives.goes rest))
+      rw (← lines rest follows) (sound_near device new.below (record { end = was.end; within = was.within; near = λ fine. gives.ahead }) gives.goes rest)
 
-  coming_before : good_coming device.left now ≡ option_map (good_after now.format (input_of now.below) now.state) (lines_left device.left now.below)
-  coming_before = coming_is device.left now g.going
+  coming_before : (rest : List ℕ) → MayStillCome new.below rest → coming ((g.bytes.0 ++ bytes) ++ rest) old ≡ with_members past (good_after now.format (input_of now.below) now.state (lines_coming (bytes ++ rest) now.below))
+  coming_before rest follows = come_then device old past now g gives.bytes.1 rest follows ∙ ap (with_members past) (good_is device now g.going (bytes ++ rest))
 
-  coming_after : good_coming device.left new ≡ option_map (good_after now.format (input_of now.below) new.state) (lines_left device.left new.below)
-  coming_after = grind (arith, coming_is)
+  coming_after : (rest : List ℕ) → coming rest new ≡ good_after now.format (input_of now.below) new.state (lines_coming rest new.below)
+  coming_after rest = good_is device new going rest ∙ ap (λ input. good_after new.format input new.state (lines_coming rest new.below)) gives.bytes.1.same_input ∙ ap (λ f. good_after f (input_of now.below) new.state (lines_coming rest new.below)) format
 
   passes_with : (given : List (Member A)) → AreSaid old.format old.state (member_items given) → new.state ≡ state_behind old.format old.state (member_items given)
-      → ComeFirst (good_coming device.left old) given (good_coming device.left new) → All (λ m. m.line ≤ lines_given new.below) given → PassesMembers device old given new
+      → ((rest : List ℕ) → MayStillCome new.below rest → coming ((g.bytes.0 ++ bytes) ++ rest) old ≡ with_members given (coming rest new)) → All (λ m. m.line ≤ lines_given new.below) given → PassesMembers device old given new
   passes_with given said state come behind = record {
     format = format ∙ g.format;
-    bytes = (g.bytes.0 ++ gives.bytes.0, hands_both device old.below now.below new.below g.bytes.0 gives.bytes.0 g.bytes.1 gives.bytes.1);
+    bytes = (g.bytes.0 ++ bytes, hands_both device old.below now.below new.below g.bytes.0 bytes g.bytes.1 gives.bytes.1);
     said = said;
     state = state;
     come = come;
@@ -424,13 +445,18 @@ module _ {S A State : Type 0} {device : Source S} {old now : MemberReader S A St
     clear = gives.goes;
     kept = kept g.kept;
     served = gives.served ∙ g.served;
-    ahead = λ known m is. absurd (nothing_ahead new m none is);
-    near = near_more (lines_left device.left old.below) (device.left (source_of new.below)) (lines_given new.below) (suc (lines_given new.below)) (omega arith) near_line;
+    ahead = λ m is. absurd (nothing_ahead new m none is);
+    near = λ rest follows. near_more (lines_coming ((g.bytes.0 ++ bytes) ++ rest) old.below) (lines_given new.below) (suc (lines_given new.below)) (length rest + block_size) (omega arith) (near_line rest follows);
   }
 
   -- the line says no member
   pub passes_none : now.format.says now.state line ≡ Ok None → new.state ≡ now.state → PassesMembers device old past new
-  passes_none says same = grind (arith, passes_with, coming_is, none_comes, coming_before, (given_left device now.below new.below line gives))
+  passes_none says same =
+      passes_with past g.said (same ∙ g.state)
+      (λ rest follows. coming_before rest follows ∙ ap (with_members past)
+      (none_comes now.format (input_of now.below) now.state (lines_coming (bytes ++ rest) now.below) (lines_coming rest new.below) line (gives.bytes.3 rest follows) says
+      ∙ ap (λ (s : State). good_after now.format (input_of now.below) s (lines_coming rest new.below)) (sym same) ∙ sym (coming_after rest)))
+      (up_to (lines_given now.below) (lines_given new.below) past rises g.behind)
 
   -- the line says this one
   module _ {item : A} (says : now.format.says now.state line ≡ Ok (Some item)) (after : new.state ≡ now.format.after now.state item) where
@@ -447,23 +473,25 @@ module _ {S A State : Type 0} {device : Source S} {old now : MemberReader S A St
         ((line, subst (λ (f : Format A State). f.says (state_behind old.format old.state (member_items past)) line ≡ Ok (Some item)) g.format (subst (λ (s : State). now.format.says s line ≡ Ok (Some item)) g.state says)), tt)))
         (after ∙ ap (λ (f : Format A State). f.after now.state item) g.format ∙ ap (λ (s : State). old.format.after s item) g.state
         ∙ sym (state_more old.format old.state (member_items past) (item ∷ [])) ∙ ap (state_behind old.format old.state) (sym items))
-        (rw (coming_after, after) (come_some now.format (input_of now.below) now.state (good_coming device.left old) (lines_left device.left now.below) (lines_left device.left new.below) line item past
-        (subst (ComeFirst (good_coming device.left old) past) coming_before g.come) (given_left device now.below new.below line gives) says))
+        (λ rest follows. coming_before rest follows ∙ ap (with_members past)
+        (come_some now.format (input_of now.below) now.state (lines_coming (bytes ++ rest) now.below) (lines_coming rest new.below) line item (gives.bytes.3 rest follows) says
+        ∙ ap (λ (s : State). with_members (member ∷ []) (good_after now.format (input_of now.below) s (lines_coming rest new.below))) (sym after) ∙ ap (with_members (member ∷ [])) (sym (coming_after rest)))
+        ∙ members_both past (member ∷ []) (coming rest new))
         (All-push (λ m. m.line ≤ lines_given new.below) past member (up_to (lines_given now.below) (lines_given new.below) past rises g.behind) (omega (arith, gives.number, gives.counted)))
 
     -- how far the input was read beside those before it
-    pub read_line : IsReadFor device old past (past ++ member ∷ []) new
-    unfolding lines_given read_here
+    pub read_line : IsReadFor device old passes_some.bytes.0 past (past ++ member ∷ []) new
+    unfolding lines_given read_here passes_some passes_with
     read_line =
         let count = lines_given now.below in
         let given : suc count ≡ lines_given new.below = sym gives.counted in
         record {
           to = record {
             count = count;
-            near = rw given near_line;
-            behind = behind_last count (good_coming device.left old) past member (sym gives.number) (rw given (read_here device old (past ++ member ∷ []) new passes_some).to.behind);
+            near = λ rest follows. rw given (near_line rest follows);
+            behind = λ rest follows. behind_last count (coming ((g.bytes.0 ++ bytes) ++ rest) old) past member (sym gives.number) (rw given ((read_here device old (past ++ member ∷ []) new passes_some).to.behind rest follows));
           };
           low = g.behind;
           high = up_to (lines_given new.below) (suc count) (past ++ member ∷ []) (omega (arith, given)) passes_some.behind;
-          begins = begins_with (good_coming device.left old) (good_coming device.left new) (past ++ member ∷ []) passes_some.come;
+          begins = λ rest follows. begins_with (coming ((g.bytes.0 ++ bytes) ++ rest) old) (coming rest new) (past ++ member ∷ []) (passes_some.come rest follows);
         }

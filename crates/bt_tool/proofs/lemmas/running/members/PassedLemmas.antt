@@ -9,12 +9,12 @@ use Rattle.bt_bed.specs.model.Good.{Good, Member, bed_format, locus_at}
 use Rattle.bt_bed.specs.model.Sorted.{Locus, locus_of, sorting_of}
 use Rattle.bt_bed.specs.calls.Orders.{IsUpTo, IsTotal}
 use Rattle.bt_bed.specs.model.Order.{Order}
-use Rattle.bt_bed.specs.calls.Reading.{AreSaid, BeginsComing, MemberReader, Takes, first_from, good_coming, members_from, with_members}
+use Rattle.bt_bed.specs.calls.Reading.{AreSaid, BeginsComing, MemberReader, Takes, coming, first_from, members_from, with_members}
 use Rattle.bt_bed.specs.calls.Records.{FillsRecords, TakesRecords, below, buffered_in, view_of}
 use Rattle.bt_bed.specs.declared.order.ChromOrder.{Ghosts}
 use Rattle.bt_bed.specs.declared.read.records.Records.{Records}
 use Rattle.bt_bed.proofs.lemmas.read.batch.RecordsLemmas.{said_behind}
-use Rattle.bt_bed.proofs.lemmas.read.good.KnownLemmas.{begins_known, taken_known}
+use Rattle.bt_lines.proofs.lemmas.reader.block.ReadsLemmas.{comes_before}
 use Rattle.bt_bed.proofs.lemmas.order.OrderLemmas.{last_of-push, grows_placed}
 use Rattle.bt_tool.specs.inside.Feed.{AreInOrder, HasTaken}
 use Rattle.bt_tool.proofs.lemmas.running.members.MemberLemmas.{IsFilled, IsOver, IsStopped}
@@ -25,9 +25,9 @@ members_split : {A : Type 0} (from : ℕ) (xs ys : List A) → members_from from
 members_split from [] ys = ap (λ (n : ℕ). members_from n ys) (let none : from ≡ from + 0 = omega arith in none)
 members_split {A} from (x ∷ xs) ys = grind (arith, (members_split (suc from) xs ys))
 
-pub comes_next : {A : Type 0} (from given : ℕ) (now next : Option (Good A)) (taken left : List A) (m : Member A) → given ≡ from + length taken
-    → IfSome now (λ good. (rest : List (Member A)) × (good.members ≡ members_from from (taken ++ left) ++ rest)) → option_map (with_members (members_from from taken)) next ≡ now
-    → first_from given left ≡ Some m → IfSome next (λ good. (rest : List (Member A)) × (good.members ≡ m ∷ rest))
+pub comes_next : {A : Type 0} (from given : ℕ) (now next : Good A) (taken left : List A) (m : Member A) → given ≡ from + length taken
+    → (more : List (Member A)) × (now.members ≡ members_from from (taken ++ left) ++ more) → now ≡ with_members (members_from from taken) next
+    → first_from given left ≡ Some m → (more : List (Member A)) × (next.members ≡ m ∷ more)
 comes_next from given now next taken left m at b e f = grind (arith, members_split, append_assoc, append_cancel_left)
 
 -- ---- what a reader of records does, as a reader of members
@@ -47,10 +47,10 @@ module _ {S State : Type 0} (device : Source S) (now new : MemberReader S Featur
   pub consumed_of : BeginsComing now → Takes device now records new → HasTaken device now records new
   consumed_of comes takes = record {
     takes = takes;
-    ahead = λ m is.
-        comes_next (suc (lines_given now.below)) (suc (lines_given new.below)) (good_coming device.left now) (good_coming device.left new) records new.buffered m (omega (arith, takes.given))
-        (subst (λ (l : List Feature). IfSome (good_coming device.left now) (λ good. (rest : List (Member Feature)) × (good.members ≡ members_from (suc (lines_given now.below)) l ++ rest))) takes.buffered (begins_known device now comes))
-        (taken_known device now new takes) is;
+    ahead = λ m is rest follows.
+        comes_next (suc (lines_given now.below)) (suc (lines_given new.below)) (coming rest now) (coming rest new) records new.buffered m (omega (arith, takes.given))
+        (subst (λ (l : List Feature). (more : List (Member Feature)) × ((coming rest now).members ≡ members_from (suc (lines_given now.below)) l ++ more)) takes.buffered (comes rest (comes_before device takes.hands rest follows)))
+        (takes.good rest follows) is;
   }
 
 pub has_taken : {S O : Type 0} {ghosts : Ghosts O} (device : Source S) (now new : Records S O ghosts) (count : ℕ) (records : List Feature) → take count (buffered_in now) ≡ records

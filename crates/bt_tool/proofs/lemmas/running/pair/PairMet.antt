@@ -1,5 +1,5 @@
 -- What all members of two inputs give.
-use Rattle.bt_lines.proofs.Std.{ℕ, ◌||◌, List, is_none, ◌≡◌, suc, ◌+◌, ◌≤◌, ◌<◌, Bool, true, false, [], ◌∷◌, ◌++◌, Option, None, Some, refl, sym, ap, ◌∙◌, subst, append_assoc, append-nil, arith, flat_map, inl, inr, ◌⊎◌, ◌≢◌, All, IfSome, IsSome, option_to_list, take, list_all, false≢true, or_from, map-append, All-head, All-tail}
+use Rattle.bt_lines.proofs.Std.{ℕ, ◌||◌, List, is_none, ◌≡◌, suc, ◌+◌, ◌≤◌, ◌<◌, Bool, true, false, [], ◌∷◌, ◌++◌, Option, None, Some, refl, sym, ap, ◌∙◌, subst, append_assoc, append-nil, arith, flat_map, inl, inr, ◌⊎◌, ◌≢◌, All, IsSome, length, option_to_list, take, list_all, false≢true, or_from, map-append, All-head, All-tail}
 use Rattle.bt_lines.specs.model.Fault.{FaultValue}
 use Rattle.bt_lines.specs.calls.Faults.{no_memory, write_failed}
 use Rattle.bt_bed.specs.model.Good.{Good, items_in, or_else, Format, Member, good, good_handed}
@@ -9,15 +9,16 @@ use Rattle.bt_lines.specs.declared.device.Source.{Ghosts as Source}
 use Rattle.bt_lines.proofs.lemmas.reader.block.ReadsLemmas.{some_is}
 use Rattle.bt_lines.specs.model.Lines.{Handed, whole_text, TextLine, text_lines}
 use Rattle.bt_lines.specs.calls.Output.{Output, block_size}
-use Rattle.bt_lines.specs.calls.Reader.{input_of, lines_given, source_of}
+use Rattle.bt_lines.specs.calls.Reader.{MayStillCome, input_of, lines_given, source_of}
 use Rattle.bt_lines.specs.declared.fault.Input.TheVariants.{First, Second}
-use Rattle.bt_bed.specs.calls.Reading.{IsBeyond, MemberReader, good_coming}
+use Rattle.bt_bed.specs.calls.Reading.{IsBeyond, MemberReader, coming}
 use Rattle.bt_bed.proofs.lemmas.Definitions.{all_stop, met_fault_stop, met_output, written_past, written_stop}
 use Rattle.bt_tool.specs.model.Behaviour.{Behaviour, or_empty}
-use Rattle.bt_tool.specs.calls.Inputs.{HandsUpTo, Holds, OfBoth, Reads, ReadsIf}
+use Rattle.bt_tool.specs.calls.Inputs.{CameOf, InputRead, MayHold, OfBoth}
+use Rattle.bt_bed.specs.model.BedLine.{fault_at_line}
 use Rattle.bt_tool.specs.calls.Run.{WritesBy, IsFaultButWrite, IsReported, IsWithin, ReadsNoFurther, TellsDevice, TellsInput}
-use Rattle.bt_tool.proofs.lemmas.running.members.CursorLemmas.{Came, BeginsAt, at_whole, came_cut, came_whole, is_known, says_fault}
-use Rattle.bt_tool.specs.inside.Feed.{PutsLines, member_items, HasFaultBehind}
+use Rattle.bt_tool.proofs.lemmas.running.members.CursorLemmas.{Came, BeginsAt, at_whole, came_cut, came_whole, read, reads_so, says_fault, tells_read}
+use Rattle.bt_tool.specs.inside.Feed.{CutsLines, IsKeptBelow, PutsLines, WhateverComes, member_items, HasFaultBehind}
 use Rattle.bt_tool.proofs.lemmas.running.feed.WritingLemmas.{is_whole}
 use Rattle.bt_tool.proofs.lemmas.running.members.SeenLemmas.{PutsFront, puts_front}
 
@@ -59,12 +60,9 @@ pub record AreLimits {X Y : Type 0} (join : JoinDef X Y) : Type 0 where
   pub ordered : (first : List X) (second : Good Y) → join.InOrder (items_in second) → join.InOrder (items_in (join.within_limit first second))
 
 -- an input that is there
-module _ {S : Type 0} (device : Source S) where
-  held_if : (source : S) (handed : Option Handed) → OfBoth (Holds device.left) (Some source) handed → Holds device.left source (or_empty handed)
-  held_if source handed h = grind arith
-
-  read_if : (before after : S) (handed : Option Handed) → ReadsIf device (Some before) (Some after) handed → Reads device before after (or_empty handed)
-  read_if before after handed h = grind arith
+both_if : (P : InputRead → Handed → Type 0) (one : InputRead) (handed : Option Handed) → OfBoth P (Some one) handed → P one (or_empty handed)
+both_if P one None h = absurd h
+both_if P one (Some handed) h = h
 
 module _ {X Y : Type 0} (join : JoinDef X Y) where
   -- what the lines and the fault of a meeting are
@@ -106,17 +104,14 @@ module _ {Y : Type 0} where
   Sees seen ended good = ((rest : List (Member Y)) × (good.members ≡ seen ++ rest)) × (ended ≡ true → (good.members ≡ seen) × (good.fault ≡ None))
 
   -- the members seen are among those that came before a failed read
-  pub seen_in : (good : Option (Good Y)) (past seen : List (Member Y)) (count : ℕ) → IsSome good
-      → IfSome good (λ good. (rest : List (Member Y)) × (good.members ≡ past ++ rest) × IsBeyond count (record { members = rest; fault = good.fault }))
-      → IfSome good (λ good. (rest : List (Member Y)) × (good.members ≡ seen ++ rest)) → All (λ m. m.line ≤ count) seen
-      → (k : List (Member Y)) × (past ≡ seen ++ k)
-  seen_in None past seen count k f b low = absurd (false≢true k)
-  seen_in (Some good) past seen count k f b low = front_in past f.0 seen b.0 count (sym f.1 ∙ b.1) low f.2.members
+  pub seen_in : (good : Good Y) (past seen : List (Member Y)) (count : ℕ) → (rest : List (Member Y)) × (good.members ≡ past ++ rest) × IsBeyond count (record { members = rest; fault = good.fault })
+      → (rest : List (Member Y)) × (good.members ≡ seen ++ rest) → All (λ m. m.line ≤ count) seen → (k : List (Member Y)) × (past ≡ seen ++ k)
+  seen_in good past seen count f b low = front_in past f.0 seen b.0 count (sym f.1 ∙ b.1) low f.2.members
 
 module _ {A B X Y U V : Type 0} {join : JoinDef X Y} {pair : Pair A B X Y U V} {out : Output}
     {first_format : Format X U} {second_format : Format Y V} (in_order : (two : Handed) → join.InOrder (items_in (good_handed second_format Second two))) (limits : AreLimits join)
-    {one_before : A} {two_before : B} (begins : BeginsAt pair.source_a.left first_format First one_before pair.first) (begins_second : BeginsAt pair.source_b.left second_format Second two_before pair.second)
-    {first : MemberReader A X U} {second : MemberReader B Y V} {one_after : A} {two_after : B} (ended : source_of first.below ≡ one_after) (ended_second : source_of second.below ≡ two_after)
+    {one_before : A} {two_before : B} (begins : BeginsAt first_format First one_before pair.first) (begins_second : BeginsAt second_format Second two_before pair.second)
+    {first : MemberReader A X U} {second : MemberReader B Y V} {one_after : A} {two_after : B} (ended : source_of first.below ≡ one_after) (ended_second : source_of second.below ≡ two_after) (kept : IsKeptBelow first first.below) (kept_second : IsKeptBelow second second.below)
     {fault : Option FaultValue} {grown : Output} (w : PairEnds join pair out fault first second grown) where
   abbrev good_one : Handed → Good X
   good_one one = good_handed first_format First one
@@ -124,11 +119,25 @@ module _ {A B X Y U V : Type 0} {join : JoinDef X Y} {pair : Pair A B X Y U V} {
   abbrev good_two : Handed → Good Y
   good_two two = good_handed second_format Second two
 
+  -- what was read of the inputs
+  abbrev pub one_read : InputRead
+  one_read = read pair.source_a pair.first begins first ended w.first_bytes.1
+
+  abbrev pub two_read : InputRead
+  two_read = read pair.source_b pair.second begins_second second ended_second w.second_bytes.1
+
   abbrev CameOne : Option FaultValue → Handed → Type 0
-  CameOne = Came pair.source_a one_before one_after
+  CameOne = Came one_read
 
   abbrev CameTwo : Option FaultValue → Handed → Type 0
-  CameTwo = Came pair.source_b two_before two_after
+  CameTwo = Came two_read
+
+  -- what is so of the inputs, whatever follows
+  abbrev WhateverOne : (Good X → Type 0) → Type 0
+  WhateverOne P = WhateverComes pair.first w.first_bytes.0 first P
+
+  abbrev WhateverTwo : (Good Y → Type 0) → Type 0
+  WhateverTwo P = WhateverComes pair.second w.second_bytes.0 second P
 
   -- what the first meets of the second
   abbrev limit : Handed → Handed → Good Y
@@ -138,24 +147,29 @@ module _ {A B X Y U V : Type 0} {join : JoinDef X Y} {pair : Pair A B X Y U V} {
   MayBe good = MayCome (member_items w.wrote.seen) w.wrote.ended (items_in good) good.fault
 
   -- what the second input may have
-  second_may : IfSome (good_coming pair.source_b.left pair.second) MayBe
-  second_may = grind (arith, map-append)
+  second_may : WhateverTwo MayBe
+  second_may rest follows =
+      let b = w.wrote.second_begins rest follows in
+      record {
+        begins = (member_items b.0, ap member_items b.1 ∙ map-append (λ m. m.item) w.wrote.seen b.0);
+        all = λ e. (let all = w.wrote.second_all e rest follows in (ap member_items all.0, all.1));
+      }
 
   abbrev SeesTwo : Good Y → Type 0
   SeesTwo = Sees w.wrote.seen w.wrote.ended
 
-  second_sees : IfSome (good_coming pair.source_b.left pair.second) SeesTwo
-  second_sees = grind arith
+  second_sees : WhateverTwo SeesTwo
+  second_sees rest follows = (w.wrote.second_begins rest follows, λ e. w.wrote.second_all e rest follows)
 
   abbrev Begins : Good X → Type 0
   Begins good = (rest : List X) × (items_in good ≡ w.wrote.given ++ rest)
 
-  module _ (first_good : Good X) (second_good : Good Y) (known : IsSome (good_coming pair.source_b.left pair.second)) (begun : Begins first_good) where
+  module _ (first_good : Good X) (second_good : Good Y) (begun : Begins first_good) where
     abbrev firsts : List X
     firsts = items_in first_good
 
     fits_first : join.Fits firsts w.wrote.taken
-    fits_first = subst (λ (l : List X). join.Fits l w.wrote.taken) (sym begun.1) (limits.more w.wrote.given begun.0 w.wrote.taken (w.wrote.fits known))
+    fits_first = subst (λ (l : List X). join.Fits l w.wrote.taken) (sym begun.1) (limits.more w.wrote.given begun.0 w.wrote.taken w.wrote.fits)
 
     abbrev seen_all : List (Member Y)
     seen_all = w.wrote.taken ++ option_to_list w.wrote.ahead
@@ -190,46 +204,43 @@ module _ {A B X Y U V : Type 0} {join : JoinDef X Y} {pair : Pair A B X Y U V} {
           begins = ([], sym (ap member_items w.wrote.sees) ∙ sym (append-nil (member_items w.wrote.seen)));
           all = λ t. absurd (false≢true (sym e ∙ t));
         } in
-        ap (list_all (λ x. join.decided x (member_items seen_all))) all ∙ ((w.wrote.settles known).whatever (member_items seen_all) (Some no_memory) ordered may).0
+        ap (list_all (λ x. join.decided x (member_items seen_all))) all ∙ (w.wrote.settles.whatever (member_items seen_all) (Some no_memory) ordered may).0
 
     -- if all of the first is written, the limit changes nothing
     free : firsts ≡ w.written → join.InOrder (items_in second_good) → (rest : List (Member Y)) → second_good.members ≡ w.wrote.seen ++ rest
         → (w.wrote.ended ≡ true → second_good.members ≡ w.wrote.seen) → join.within_limit firsts second_good ≡ second_good
     free all ordered rest begins ends = grind (arith, whole_at, decided_all)
 
-  first_whole : (other : Option FaultValue) (one : Handed) → CameOne other one → Serves pair.source_a.has_failed pair.first first → (P : Good X → Type 0) → IfSome (good_coming pair.source_a.left pair.first) P → P (good_one one)
-  first_whole other one came serves =
-      came_whole pair.source_a pair.first begins first ended came w.wrote.first_bytes serves.served serves.within
+  first_whole : (other : Option FaultValue) (one : Handed) → CameOne other one → Serves pair.source_a.has_failed pair.first first → (P : Good X → Type 0) → WhateverOne P → P (good_one one)
+  first_whole other one came serves = came_whole pair.source_a pair.first begins first ended w.first_bytes.1 came serves.clear serves.within
 
-  second_whole : (other : Option FaultValue) (two : Handed) → CameTwo other two → Serves pair.source_b.has_failed pair.second second → (P : Good Y → Type 0) → IfSome (good_coming pair.source_b.left pair.second) P → P (good_two two)
-  second_whole other two came serves =
-      came_whole pair.source_b pair.second begins_second second ended_second came w.wrote.second_bytes serves.served serves.within
+  second_whole : (other : Option FaultValue) (two : Handed) → CameTwo other two → Serves pair.source_b.has_failed pair.second second → (P : Good Y → Type 0) → WhateverTwo P → P (good_two two)
+  second_whole other two came serves = came_whole pair.source_b pair.second begins_second second ended_second w.second_bytes.1 came serves.clear serves.within
 
-  known_by : (two : List ℕ) → pair.source_b.left two_before ≡ Some two → IsSome (good_coming pair.source_b.left pair.second)
-  known_by two e = is_known pair.source_b pair.second begins_second second ended_second two e
-
-  here_by : (one two : Handed) → IsSome (good_coming pair.source_b.left pair.second) → MayBe (limit one two) → HereAs join (limit one two) w.written w.bytes
-  here_by one two known may = (w.wrote.settles known).whatever (items_in (limit one two)) (limit one two).fault (limits.ordered (items_in (good_one one)) (good_two two) (in_order two)) may
+  here_by : (one two : Handed) → MayBe (limit one two) → HereAs join (limit one two) w.written w.bytes
+  here_by one two may = w.wrote.settles.whatever (items_in (limit one two)) (limit one two).fault (limits.ordered (items_in (good_one one)) (good_two two) (in_order two)) may
 
   -- what the fault of an input says of it
-  first_wrong : (past : List (Member X)) (other : FaultValue) (one : Handed) → CameOne (Some other) one → HasFaultBehind pair.source_a pair.first join.first_kinds past other first
+  first_wrong : (past : List (Member X)) (other : FaultValue) (one : Handed) → CameOne (Some other) one → HasFaultBehind pair.source_a pair.first join.first_kinds w.first_bytes.0 past other first
       → ((good_one one).members ≡ past) × ((good_one one).fault ≡ Some other)
   first_wrong past other one came fails =
-      says_fault pair.source_a pair.first begins first ended join.first_kinds past other one came w.wrote.first_bytes fails
+      says_fault pair.source_a pair.first begins first ended w.first_bytes.1 join.first_kinds past other one came kept fails
 
-  second_wrong : (past : List (Member Y)) (other : FaultValue) (two : Handed) → CameTwo (Some other) two → SecondFails join pair out w.wrote.ended past second other
+  second_wrong : (past : List (Member Y)) (other : FaultValue) (two : Handed) → CameTwo (Some other) two → SecondFails join pair out w.first_bytes.0 w.second_bytes.0 w.wrote.ended past second other
       → ((good_two two).members ≡ past) × ((good_two two).fault ≡ Some other) × MayBe (good_two two)
       × ((rest : List (Member Y)) × ((good_two two).members ≡ w.wrote.seen ++ rest)) × (w.wrote.ended ≡ true → (good_two two).members ≡ w.wrote.seen)
   second_wrong past other two came fails =
       elim fails.cause [
         | inl wrong ↦
-            let serves : Serves pair.source_b.has_failed pair.second second = record { served = wrong.served; within = wrong.within } in
+            let serves : Serves pair.source_b.has_failed pair.second second = record { served = wrong.served; clear = wrong.clear; within = wrong.within } in
             let is = second_whole (Some other) two came serves (λ good. (good.members ≡ past) × (good.fault ≡ Some other)) wrong.whole in
             let sees = second_whole (Some other) two came serves SeesTwo second_sees in
             (is.0, is.1, second_whole (Some other) two came serves MayBe second_may, sees.0, λ e. (sees.1 e).0)
         | inr unread ↦
-            let is = came_cut pair.source_b pair.second begins_second second ended_second past other two came unread in
-            let k = seen_in (good_coming pair.source_b.left pair.second) past w.wrote.seen (lines_given second.below) (grind arith) unread.members w.wrote.second_begins (w.wrote.low (subst IsSome (sym unread.kept) refl)) in
+            let cut = kept_second (input_of pair.second.below) (suc (lines_given second.below)) (unread.kept ∙ ap Some unread.is) in
+            let is = came_cut pair.source_b pair.second begins_second second ended_second w.second_bytes.1 past other two came unread (input_of pair.second.below, suc (lines_given second.below), cut) in
+            let none : MayStillCome second.below [] = λ told. refl in
+            let k = seen_in (coming (w.second_bytes.0 ++ []) pair.second) past w.wrote.seen (lines_given second.below) (unread.members [] none) (w.wrote.second_begins [] none) (w.wrote.low (subst IsSome (sym unread.kept) refl)) in
             let may : MayCome (member_items w.wrote.seen) w.wrote.ended (member_items past) (Some other) = record {
               begins = (member_items k.0, ap member_items k.1 ∙ map-append (λ m. m.item) w.wrote.seen k.0);
               all = λ e. absurd (fails.before_end e (input_of pair.second.below) (suc (lines_given second.below)) unread.is);
@@ -244,51 +255,48 @@ module _ {A B X Y U V : Type 0} {join : JoinDef X Y} {pair : Pair A B X Y U V} {
 
   -- the inputs tell the end
   module _ (one two : Handed) (came : CameOne fault one) (came_second : CameTwo fault two) where
-    known_now : IsSome (good_coming pair.source_b.left pair.second)
-    known_now = grind arith
-
     abbrev MeetsHere : Type 0
     MeetsHere = MeetsAs join (good_one one) (limit one two) w.bytes fault
 
-    meets_first : (other : FaultValue) → fault ≡ Some other → FirstStops join pair out w.written w.wrote.given first second other → MeetsHere
+    meets_first : (other : FaultValue) → fault ≡ Some other → FirstStops join pair out w.first_bytes.0 w.second_bytes.0 w.written w.wrote.given first second other → MeetsHere
     meets_first other is stops =
         let says = first_wrong stops.past other one (subst (λ f. CameOne f one) is came) stops.cause in
         let begun : Begins (good_one one) = ([], ap member_items says.0 ∙ sym stops.all_given ∙ sym (append-nil w.wrote.given)) in
-        let may = limited_may (good_one one) (good_two two) known_now begun (second_whole fault two came_second stops.serves SeesTwo second_sees) in
+        let may = limited_may (good_one one) (good_two two)  begun (second_whole fault two came_second stops.serves SeesTwo second_sees) in
         grind (arith, here_by)
 
-    meets_second : (other : FaultValue) → fault ≡ Some other → SecondStops join pair out w.written w.wrote.ended first second other → MeetsHere
+    meets_second : (other : FaultValue) → fault ≡ Some other → SecondStops join pair out w.first_bytes.0 w.second_bytes.0 w.written w.wrote.ended first second other → MeetsHere
     meets_second other is stops =
         let says = second_wrong stops.past other two (subst (λ f. CameTwo f two) is came_second) stops.fails in
         let waits = first_whole fault one came stops.serves (λ good. (rest : List X) × (items_in good ≡ w.written ++ stops.waiting ∷ rest)) stops.begins in
         let all = items_in (good_one one) in
-        let fits : join.Fits all stops.past = rw (← append_assoc w.written (stops.waiting ∷ []) waits.0 ∙ sym waits.1) (limits.more (w.written ++ stops.waiting ∷ []) waits.0 stops.past (stops.fits known_now)) in
+        let fits : join.Fits all stops.past = rw (← append_assoc w.written (stops.waiting ∷ []) waits.0 ∙ sym waits.1) (limits.more (w.written ++ stops.waiting ∷ []) waits.0 stops.past stops.fits) in
         let cut = good_is (good_two two) stops.past (Some other) says.0 says.1 in
         let same : limit one two ≡ good_two two = ap (join.within_limit all) cut ∙ limits.whole all stops.past (Some other) fits ∙ sym cut in
         let undecided_by : join.decided stops.waiting (items_in (limit one two)) ≡ false =
         ap (λ (g : Good Y). join.decided stops.waiting (items_in g)) same
         ∙ ap (λ ms. join.decided stops.waiting (member_items ms)) says.0
-        ∙ (grind arith) in
+        ∙ stops.undecided in
         let told : (limit one two).fault ≡ Some other = ap (λ (g : Good Y). g.fault) same ∙ says.1 in
-        let met = meets_stop join (good_one one) (limit one two) w.written w.bytes (here_by one two known_now (subst MayBe (sym same) says.2)) stops.waiting waits.0 other waits.1 told undecided_by in
+        let met = meets_stop join (good_one one) (limit one two) w.written w.bytes (here_by one two  (subst MayBe (sym same) says.2)) stops.waiting waits.0 other waits.1 told undecided_by in
         (met.0, met.1 ∙ sym is)
 
-    meets_limit : (other : FaultValue) → fault ≡ Some other → LimitStops join pair out w.written first second other → MeetsHere
+    meets_limit : (other : FaultValue) → fault ≡ Some other → LimitStops join pair out w.first_bytes.0 w.second_bytes.0 w.written first second other → MeetsHere
     meets_limit other is stops =
         let waits = first_whole fault one came stops.serves (λ good. (rest : List X) × (items_in good ≡ w.written ++ stops.waiting ∷ rest)) stops.begins in
         let begun = first_whole fault one came stops.serves Begins w.wrote.given_begin in
         let comes = second_whole fault two came_second stops.serves_second (λ good. (rest : List (Member Y)) × (good.members ≡ (stops.past ++ stops.m ∷ []) ++ rest)) stops.comes in
-        let may = limited_may (good_one one) (good_two two) known_now begun (second_whole fault two came_second stops.serves_second SeesTwo second_sees) in
+        let may = limited_may (good_one one) (good_two two)  begun (second_whole fault two came_second stops.serves_second SeesTwo second_sees) in
         let cut : limit one two ≡ record { members = stops.past ++ stops.m ∷ []; fault = Some other } =
         ap (λ (l : List X). join.within_limit l (good_two two)) waits.1
         ∙ ap (join.within_limit (w.written ++ stops.waiting ∷ waits.0)) (good_is (good_two two) ((stops.past ++ stops.m ∷ []) ++ comes.0) (good_two two).fault comes.1 refl)
-        ∙ stops.cuts known_now waits.0 comes.0 (good_two two).fault in
-        let met = meets_stop join (good_one one) (limit one two) w.written w.bytes (here_by one two known_now may) stops.waiting waits.0 other waits.1 (ap (λ (g : Good Y). g.fault) cut)
+        ∙ stops.cuts waits.0 comes.0 (good_two two).fault in
+        let met = meets_stop join (good_one one) (limit one two) w.written w.bytes (here_by one two  may) stops.waiting waits.0 other waits.1 (ap (λ (g : Good Y). g.fault) cut)
         (ap (λ (g : Good Y). join.decided stops.waiting (items_in g)) cut ∙ stops.undecided) in
         (met.0, met.1 ∙ sym is)
 
     -- all of the first is written
-    module _ (stops : RestStops join pair out w.written w.wrote.ended first second fault) where
+    module _ (stops : RestStops join pair out w.first_bytes.0 w.second_bytes.0 w.written w.wrote.ended first second fault) where
       whole_first : ((good_one one).members ≡ stops.past) × ((good_one one).fault ≡ None)
       whole_first = first_whole fault one came stops.serves (λ good. (good.members ≡ stops.past) × (good.fault ≡ None)) stops.whole
 
@@ -299,8 +307,8 @@ module _ {A B X Y U V : Type 0} {join : JoinDef X Y} {pair : Pair A B X Y U V} {
           → (rest : List (Member Y)) × ((good_two two).members ≡ w.wrote.seen ++ rest) → (w.wrote.ended ≡ true → (good_two two).members ≡ w.wrote.seen) → MeetsHere
       at_last told is last may begins ends =
           let begun = first_whole fault one came stops.serves Begins w.wrote.given_begin in
-          let same = free (good_one one) (good_two two) known_now begun every (in_order two) begins.0 begins.1 ends in
-          let here : HereAs join (good_two two) w.written w.bytes = (w.wrote.settles known_now).whatever (items_in (good_two two)) (good_two two).fault (in_order two) may in
+          let same = free (good_one one) (good_two two)  begun every (in_order two) begins.0 begins.1 ends in
+          let here : HereAs join (good_two two) w.written w.bytes = (w.wrote.settles ).whatever (items_in (good_two two)) (good_two two).fault (in_order two) may in
           grind (arith, whole_first)
 
       meets_rest : MeetsHere
@@ -322,50 +330,48 @@ module _ {A B X Y U V : Type 0} {join : JoinDef X Y} {pair : Pair A B X Y U V} {
             ]
           ]
 
-    meets : InputsEnd join pair out w.written w.wrote.given w.wrote.ended first second fault → MeetsHere
+    meets : InputsEnd join pair out w.first_bytes.0 w.second_bytes.0 w.written w.wrote.given w.wrote.ended first second fault → MeetsHere
     meets (inl stops) = meets_first stops.0 stops.1 stops.2
     meets (inr (inl stops)) = meets_second stops.0 stops.1 stops.2
     meets (inr (inr (inl stops))) = meets_rest stops
     meets (inr (inr (inr stops))) = meets_limit stops.0 stops.1 stops.2
 
-    reported : (before : List ℕ) → out.put ≡ Some before → InputsEnd join pair out w.written w.wrote.given w.wrote.ended first second fault → PutsLines out w.bytes grown
+    reported : (before : List ℕ) → out.put ≡ Some before → InputsEnd join pair out w.first_bytes.0 w.second_bytes.0 w.written w.wrote.given w.wrote.ended first second fault → PutsLines out w.bytes grown
         → IsReported (met_by join (good_one one) (good_two two)) before fault grown
     reported before put end puts = let met = meets end in (sym met.1, puts before put ∙ ap (λ l. Some (before ++ l)) (sym met.0))
 
   -- what was written begins the report on the whole texts
-  front_of : (first second : Handed) → Holds pair.source_a.left one_before first → Holds pair.source_b.left two_before second
+  front_of : (first second : Handed) → MayHold one_read first → MayHold two_read second
       → (more : List ℕ) × ((met_by join (good_one first) (good_two second)).output ≡ w.bytes ++ more)
-  front_of first_handed second_handed holds others =
-      let one = holds.text in
-      let two = others.text in
-      let e = holds.known in
-      let f = others.known in
-      let sees = at_whole pair.source_b pair.second begins_second second ended_second two f SeesTwo second_sees in
-      let begun = at_whole pair.source_a pair.first begins first ended one e Begins w.wrote.given_begin in
-      let may = limited_may (good_one (whole_text one)) (good_two (whole_text two)) (known_by two f) begun sees in
-      let rest = at_whole pair.source_a pair.first begins first ended one e (λ good. (rest : List X) × (items_in good ≡ w.written ++ rest)) w.wrote.first_begins in
-      rw (holds.is, others.is) (meets_front join (good_one (whole_text one)) (limit (whole_text one) (whole_text two)) w.written w.bytes (here_by (whole_text one) (whole_text two) (known_by two f) may) rest.0 rest.1)
+  front_of one two holds others =
+      let sees = at_whole pair.source_b pair.second begins_second second ended_second w.second_bytes.1 others SeesTwo second_sees in
+      let begun = at_whole pair.source_a pair.first begins first ended w.first_bytes.1 holds Begins w.wrote.given_begin in
+      let may = limited_may (good_one one) (good_two two) begun sees in
+      let rest = at_whole pair.source_a pair.first begins first ended w.first_bytes.1 holds (λ good. (rest : List X) × (items_in good ≡ w.written ++ rest)) w.wrote.first_begins in
+      meets_front join (good_one one) (limit one two) w.written w.bytes (here_by one two may) rest.0 rest.1
 
-  first_named : (past : List (Member X)) (other : FaultValue) → HasFaultBehind pair.source_a pair.first join.first_kinds past other first → TellsInput pair.source_a join.first_kinds First one_before one_after other
-  first_named past other fails = grind arith
+  first_named : (past : List (Member X)) (other : FaultValue) → HasFaultBehind pair.source_a pair.first join.first_kinds w.first_bytes.0 past other first → TellsInput pair.source_a join.first_kinds First one_read one_after other
+  first_named past other (inl wrong) = inl (record { line = wrong.line; kind = wrong.kind; of_kind = wrong.of_kind; is = wrong.is ∙ ap (λ i. fault_at_line i wrong.line wrong.kind) begins.input_is })
+  first_named past other (inr unread) = inr (tells_read pair.source_a pair.first begins first ended w.first_bytes.1 unread)
 
-  second_cause : (past : List (Member Y)) (other : FaultValue) → HasFaultBehind pair.source_b pair.second join.second_kinds past other second → TellsInput pair.source_b join.second_kinds Second two_before two_after other
-  second_cause past other fails = grind arith
+  second_cause : (past : List (Member Y)) (other : FaultValue) → HasFaultBehind pair.source_b pair.second join.second_kinds w.second_bytes.0 past other second → TellsInput pair.source_b join.second_kinds Second two_read two_after other
+  second_cause past other (inl wrong) = inl (record { line = wrong.line; kind = wrong.kind; of_kind = wrong.of_kind; is = wrong.is ∙ ap (λ i. fault_at_line i wrong.line wrong.kind) begins_second.input_is })
+  second_cause past other (inr unread) = inr (tells_read pair.source_b pair.second begins_second second ended_second w.second_bytes.1 unread)
 
-  second_named : (past : List (Member Y)) (other : FaultValue) → SecondFails join pair out w.wrote.ended past second other → TellsInput pair.source_b join.second_kinds Second two_before two_after other
+  second_named : (past : List (Member Y)) (other : FaultValue) → SecondFails join pair out w.first_bytes.0 w.second_bytes.0 w.wrote.ended past second other → TellsInput pair.source_b join.second_kinds Second two_read two_after other
   second_named past other fails = second_cause past other fails.cause
 
   abbrev Because : Type 0
-  Because = Why join pair out w.written w.bytes w.wrote.given w.wrote.ended first second fault grown
+  Because = Why join pair out w.first_bytes.0 w.second_bytes.0 w.written w.bytes w.wrote.given w.wrote.ended first second fault grown
 
   abbrev TellsBoth : FaultValue → Type 0
-  TellsBoth told = TellsInput pair.source_a join.first_kinds First one_before one_after told ⊎ TellsInput pair.source_b join.second_kinds Second two_before two_after told
+  TellsBoth told = TellsInput pair.source_a join.first_kinds First one_read one_after told ⊎ TellsInput pair.source_b join.second_kinds Second two_read two_after told
 
   -- what the inputs tell
-  tells_by : (told : FaultValue) → fault ≡ Some told → InputsEnd join pair out w.written w.wrote.given w.wrote.ended first second fault → TellsBoth told
+  tells_by : (told : FaultValue) → fault ≡ Some told → InputsEnd join pair out w.first_bytes.0 w.second_bytes.0 w.written w.wrote.given w.wrote.ended first second fault → TellsBoth told
   tells_by told e (inl stops) = subst TellsBoth (some_is stops.0 told (sym stops.1 ∙ e)) (inl (first_named stops.2.past stops.0 stops.2.cause))
   tells_by told e (inr (inl stops)) = subst TellsBoth (some_is stops.0 told (sym stops.1 ∙ e)) (inr (second_named stops.2.past stops.0 stops.2.fails))
-  tells_by told e (inr (inr (inr stops))) = grind arith
+  tells_by told e (inr (inr (inr stops))) = subst TellsBoth (some_is stops.0 told (sym stops.1 ∙ e)) (inr (inl (record { line = stops.2.m.line; kind = stops.2.kind; of_kind = stops.2.of_kind; is = stops.2.is })))
   tells_by told e (inr (inr (inl stops))) =
       elim stops.rest [
         | inl end ↦ absurd (let apart : None ≡ Some told = sym end.0 ∙ e in cc)
@@ -387,13 +393,18 @@ module _ {A B X Y U V : Type 0} {join : JoinDef X Y} {pair : Pair A B X Y U V} {
   whole_by one two before came came_second put write memory (inr (inr cut)) = absurd (write cut.0)
 
   kept_by : fault ≢ Some write_failed → Because → PutsFront out w.bytes grown
-  kept_by other p1 = grind (arith, puts_front)
+  kept_by other (inl (end, puts, works)) = puts_front out w.bytes grown puts
+  kept_by other (inr (inl ran)) = puts_front out w.bytes grown ran.1
+  kept_by other (inr (inr cut)) = absurd (other cut.0)
+
+  cut_by : fault ≡ Some write_failed → Because → CutsLines out w.bytes grown
+  cut_by is p1 = grind arith
 
   module _ (settles : Handed → List TextLine → List ℕ) (reaches : Handed → List TextLine → ℕ) where
     abbrev pub NearBoth : Type 0
-    NearBoth = (one two before taken : List ℕ) → pair.source_a.left one_before ≡ Some one → pair.source_b.left two_before ≡ Some two → out.put ≡ Some before → out.took ≡ Some taken
-        → ReadsNoFurther (λ n. IsWithin (pair.source_a.end_told one_after) one n → HandsUpTo pair.source_b.left (reaches (whole_text two) (take n (text_lines one)) + block_size) two_before two_after)
-        (λ lines. (good first_format First lines).fault) (settles (whole_text two)) one (pair.source_a.left one_after) before grown.took (grown.has_failed ≡ true) (IsFaultButWrite fault) grown.put
+    NearBoth = (n : ℕ) × ((one two : Handed) (before taken : List ℕ) → MayHold one_read one → MayHold two_read two → out.put ≡ Some before → out.took ≡ Some taken
+        → ReadsNoFurther n (IsWithin one_read.told one.text n → length two_read.bytes ≤ reaches two (take n (text_lines one.text)) + block_size)
+        (λ lines. (good first_format First lines).fault) (settles two) one.text one_read.bytes before grown.took (grown.has_failed ≡ true) (IsFaultButWrite fault) grown.put)
 
     abbrev behaviour : Behaviour
     behaviour = record {
@@ -408,21 +419,22 @@ module _ {A B X Y U V : Type 0} {join : JoinDef X Y} {pair : Pair A B X Y U V} {
     -- the report on how the inputs meet, by how far they were read
     pub writes_both : NearBoth → WritesBy pair.source_a pair.source_b behaviour one_before (Some two_before) out fault one_after (Some two_after) grown
     writes_both near = record {
-      whole = λ one two before reads others put write memory. whole_by one (or_empty two) before (inl reads) (inl (read_if pair.source_b two_before two_after two others)) put write memory w.why;
+      one = one_read;
+      one_reads = reads_so pair.source_a pair.first begins first ended w.first_bytes.1;
+      two = Some two_read;
+      two_reads = reads_so pair.source_b pair.second begins_second second ended_second w.second_bytes.1;
+      whole = λ one two before came others put write memory. whole_by one (or_empty two) before (inl came) (inl (both_if CameOf two_read two others)) put write memory w.why;
       told = λ one two before holds others put is.
-          whole_by one (or_empty two) before (inr (is_whole pair.source_a one_before one_after fault one holds is))
-          (inr (is_whole pair.source_b two_before two_after fault (or_empty two) (held_if pair.source_b two_before two others) is)) put is.no_write is.no_growth w.why;
+          whole_by one (or_empty two) before (inr (is_whole holds is)) (inr (is_whole (both_if MayHold two_read two others) is)) put is.no_write is.no_growth w.why;
       cut = λ is one two before holds others put.
-          let more = front_of one (or_empty two) holds (held_if pair.source_b two_before two others) in
-          (w.bytes, more.0, more.1, grind arith);
+          let more = front_of one (or_empty two) holds (both_if MayHold two_read two others) in
+          (w.bytes, more.0, more.1, (cut_by is w.why).front before put);
       kept = λ other one two before holds others put.
-          let more = front_of one (or_empty two) holds (held_if pair.source_b two_before two others) in
+          let more = front_of one (or_empty two) holds (both_if MayHold two_read two others) in
           let part = kept_by other w.why in
           (part.front, part.rest ++ more.0, more.1 ∙ ap (λ l. l ++ more.0) part.parts ∙ append_assoc part.front part.rest more.0, part.puts before put);
       grows = w.wrote.grows;
       served = λ e. grind arith;
-      near = λ one two before taken holds others put took.
-          let held = held_if pair.source_b two_before two others in
-          rw (holds.is, held.is) (near holds.text held.text before taken holds.known held.known put took);
+      near = (near.0, λ one two before taken holds others put took. near.1 one (or_empty two) before taken holds (both_if MayHold two_read two others) put took);
       named = λ told e. named_by told e w.why;
     }

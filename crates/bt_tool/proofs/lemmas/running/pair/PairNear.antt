@@ -1,10 +1,10 @@
 -- Lemmas on how far two inputs were read beside what was written.
-use Rattle.bt_lines.proofs.Std.{common_steps, ◌≡◌, ℕ, zero, suc, ◌+◌, ◌-◌, ◌<◌, ◌≤◌, Bool, true, false, not, List, [], ◌∷◌, ◌++◌, take, drop, Option, None, Some, Result, Ok, Err, refl, sym, ap, ◌∙◌, subst, arith, flat_map, inl, inr, ◌⊎◌, ◌&&◌, ◌||◌, All, IfSome, IsSome, if◌then◌else◌, Consumes, list_all, list_any, false≢true, map-append, take-append-drop, option_map, All-head, All-tail, append-nil, append_cancel_left}
-use Rattle.bt_lines.specs.model.Lines.{Handed, whole_text, TextLine, bytes_in, text_lines}
+use Rattle.bt_lines.proofs.Std.{common_steps, ◌≡◌, ℕ, zero, suc, ◌+◌, ◌-◌, ◌<◌, ◌≤◌, Bool, true, false, not, List, [], ◌∷◌, ◌++◌, take, drop, Option, None, Some, Result, Ok, Err, refl, sym, ap, ◌∙◌, subst, arith, flat_map, inl, inr, ◌⊎◌, ◌&&◌, ◌||◌, All, IfSome, length, if◌then◌else◌, list_all, list_any, false≢true, map-append, take-append-drop, option_map, All-head, All-tail, append-nil, append_cancel_left}
+use Rattle.bt_lines.specs.model.Lines.{Handed, TextLine, bytes_in, text_lines}
 use Rattle.bt_lines.specs.calls.Line.{AreNumbered}
 use Rattle.bt_lines.specs.model.Fault.{FaultValue}
 use Rattle.bt_lines.specs.calls.Output.{Output, block_size}
-use Rattle.bt_lines.specs.calls.Reader.{source_of, lines_given}
+use Rattle.bt_lines.specs.calls.Reader.{source_of, lines_coming, lines_given}
 use Rattle.bt_lines.specs.declared.fault.Input.{Input}
 use Rattle.bt_lines.specs.declared.fault.Input.TheVariants.{First, Second}
 use Rattle.bt_lines.specs.declared.fault.Kind.{Kind}
@@ -12,14 +12,14 @@ use Rattle.bt_lines.specs.declared.fault.Place.{Place}
 use Rattle.bt_lines.proofs.lemmas.reader.lines.TextLemmas.{bytes_in-append, lines_are_numbered}
 use Rattle.bt_bed.specs.model.Feature.{Feature}
 use Rattle.bt_bed.specs.model.Good.{Format, Good, Member, good, good_after, good_handed, good_with, items_in}
-use Rattle.bt_bed.specs.calls.Reading.{BeginsComing, IsBeyond, IsFaultBeyond, MemberReader, ahead_in, first_from as first_of_members, good_coming}
+use Rattle.bt_bed.specs.calls.Reading.{BeginsComing, IsBeyond, IsFaultBeyond, MemberReader, ahead_in, first_from as first_of_members}
 use Rattle.bt_bed.proofs.lemmas.read.good.SaidLemmas.{ascend_from, first_from}
 use Rattle.bt_tool.specs.model.Reaches.{bytes_up_to, last_line_needed}
 use Rattle.bt_tool.specs.calls.Run.{IsFaultButWrite, IsWithin, ReadsNoFurther}
-use Rattle.bt_tool.specs.inside.Feed.{TookButBlock, member_items, ConsumesGiven, HasTaken}
-use Rattle.bt_tool.specs.calls.Inputs.{HandsUpTo}
+use Rattle.bt_tool.specs.inside.Feed.{TookButBlock, WhateverComes, member_items, ConsumesGiven, HasTaken}
+use Rattle.bt_tool.specs.calls.Inputs.{InputRead, MayHold}
 use Rattle.bt_tool.specs.inside.Pair.{HasNoMore, JoinDef, MayCome, Pair, AsksFor, PairEnds, StaysNear}
-use Rattle.bt_tool.proofs.lemmas.running.members.CursorLemmas.{BeginsAt, at_whole, good_whole, handed_to, is_known}
+use Rattle.bt_tool.proofs.lemmas.running.members.CursorLemmas.{BeginsAt, at_whole, handed_to, read}
 use Rattle.bt_lines.specs.declared.device.Source.{Ghosts as Source}
 use Rattle.bt_bed.specs.calls.Batch.{IsWhere, Passes, cursor_in, left as left_in, line_in}
 use Rattle.bt_bed.specs.calls.SortedReader.{view_with}
@@ -93,14 +93,20 @@ AreNeeded {X} {Y} join =
 
 module _ {A B X Y U V : Type 0} {join : JoinDef X Y} {pair : Pair A B X Y U V} {out : Output}
     {first_format : Format X U} {second_format : Format Y V} (in_order : (two : Handed) → join.InOrder (items_in (good_handed second_format Second two))) (needed : AreNeeded join)
-    {one_before : A} {two_before : B} (begins : BeginsAt pair.source_a.left first_format First one_before pair.first) (begins_second : BeginsAt pair.source_b.left second_format Second two_before pair.second)
+    {one_before : A} {two_before : B} (begins : BeginsAt first_format First one_before pair.first) (begins_second : BeginsAt second_format Second two_before pair.second)
     {first : MemberReader A X U} {second : MemberReader B Y V} {one_after : A} {two_after : B} (ended : source_of first.below ≡ one_after) (ended_second : source_of second.below ≡ two_after)
     {fault : Option FaultValue} {grown : Output} (w : PairEnds join pair out fault first second grown) where
-  abbrev near : StaysNear join pair out first second grown
+  abbrev near : StaysNear join pair out w.first_bytes.0 w.second_bytes.0 first second grown
   near = w.near
 
   abbrev count : ℕ
   count = near.first_near.to.count
+
+  abbrev one_read : InputRead
+  one_read = read pair.source_a pair.first begins first ended w.first_bytes.1
+
+  abbrev two_read : InputRead
+  two_read = read pair.source_b pair.second begins_second second ended_second w.second_bytes.1
 
   abbrev pub items_on : List TextLine → List X
   items_on lines = items_in (good first_format First lines)
@@ -111,77 +117,89 @@ module _ {A B X Y U V : Type 0} {join : JoinDef X Y} {pair : Pair A B X Y U V} {
   abbrev pub reaches : Handed → List TextLine → ℕ
   reaches two lines = join.reaches (items_on lines) (good_handed second_format Second two) (text_lines two.text)
 
-  module _ (one two : List ℕ) (e : pair.source_a.left one_before ≡ Some one) (f : pair.source_b.left two_before ≡ Some two) where
+  module _ (one two : Handed) (holds : MayHold one_read one) (others : MayHold two_read two) where
     abbrev good_one : Good X
-    good_one = good first_format First (text_lines one)
+    good_one = good first_format First (text_lines one.text)
 
     abbrev good_two : Good Y
-    good_two = good_handed second_format Second (whole_text two)
+    good_two = good_handed second_format Second two
 
-    known : IsSome (good_coming pair.source_b.left pair.second)
-    known = is_known pair.source_b pair.second begins_second second ended_second two f
+    of_one : (P : Good X → Type 0) → WhateverComes pair.first w.first_bytes.0 first P → P good_one
+    of_one P h = subst P (begins.good (w.first_bytes.0 ++ holds.rest) ∙ ap (λ (t : Handed). good first_format First (text_lines t.text)) (sym holds.is)) (h holds.rest holds.follows)
 
-    of_one : (P : Good X → Type 0) → IfSome (good_coming pair.source_a.left pair.first) P → P good_one
-    of_one P h = subst P (good_whole first_format First one) (at_whole pair.source_a pair.first begins first ended one e P h)
-
-    of_two : (P : Good Y → Type 0) → IfSome (good_coming pair.source_b.left pair.second) P → P good_two
-    of_two P h = at_whole pair.source_b pair.second begins_second second ended_second two f P h
+    of_two : (P : Good Y → Type 0) → WhateverComes pair.second w.second_bytes.0 second P → P good_two
+    of_two P h = at_whole pair.source_b pair.second begins_second second ended_second w.second_bytes.1 others P h
 
     -- those that were given are on them and the next
-    given_on : (extra : List (Member X)) × (items_on (take (suc count) (text_lines one)) ≡ member_items near.given_first ++ member_items extra)
+    given_on : (extra : List (Member X)) × (items_on (take (suc count) (text_lines one.text)) ≡ member_items near.given_first ++ member_items extra)
     given_on =
         let b = of_one (λ good. (rest : List (Member X)) × (good.members ≡ near.given_first ++ rest)) near.first_near.begins in
-        let found = front_from first_format First (suc count) 1 first_format.begin (text_lines one) near.given_first b.0 (omega arith) (lines_are_numbered 1 one) b.1 near.first_near.high in
+        let found = front_from first_format First (suc count) 1 first_format.begin (text_lines one.text) near.given_first b.0 (omega arith) (lines_are_numbered 1 one.text) b.1 near.first_near.high in
         (found.0, ap member_items found.1 ∙ map-append (λ m. m.item) near.given_first found.0)
 
-    -- their lines were written
-    settled : settles (whole_text two) (take count (text_lines one)) ≡ near.bytes
-    settled =
-        let may = of_two (λ good. MayCome (member_items near.wrote.seen) near.wrote.ended (items_in good) good.fault)
-        (grind (arith, map-append)) in
-        ap (flat_map (λ x. join.bytes x (items_in good_two))) (grind (arith, first_from, (lines_are_numbered 1 one)))
-        ∙ ((near.wrote.settles known).whatever (items_in good_two) good_two.fault (in_order (whole_text two)) may).1
-
-    -- none of them is at fault
-    faultless : (good first_format First (take count (text_lines one))).fault ≡ None
-    faultless =
+    -- the members of the first lines are those that were written, and none of them is at fault
+    on_first : good first_format First (take count (text_lines one.text)) ≡ record { members = near.past; fault = None }
+    on_first =
         let b = of_one (λ good. (rest : List (Member X)) × (good.members ≡ near.past ++ rest) × IsBeyond count (record { members = rest; fault = good.fault })) near.first_near.to.behind in
-        ap (λ (g : Good X). g.fault) (first_from first_format First count 1 first_format.begin (text_lines one) (omega arith) (lines_are_numbered 1 one) b.1 refl near.first_near.low b.2)
+        first_from first_format First count 1 first_format.begin (text_lines one.text) (omega arith) (lines_are_numbered 1 one.text) b.1 refl near.first_near.low b.2
+
+    -- what the second input may have
+    may_two : MayCome (member_items near.wrote.seen) near.wrote.ended (items_in good_two) good_two.fault
+    may_two =
+        let b = of_two (λ good. (rest : List (Member Y)) × (good.members ≡ near.wrote.seen ++ rest)) near.wrote.second_begins in
+        record {
+          begins = (member_items b.0, ap member_items b.1 ∙ map-append (λ m. m.item) near.wrote.seen b.0);
+          all = λ e. (let all = of_two (λ good. (good.members ≡ near.wrote.seen) × (good.fault ≡ None)) (near.wrote.second_all e) in (ap member_items all.0, all.1));
+        }
+
+    -- their lines were written
+    settled : settles two (take count (text_lines one.text)) ≡ near.bytes
+    settled =
+        ap (flat_map (λ x. join.bytes x (items_in good_two))) (ap (λ (g : Good X). items_in g) on_first ∙ near.items)
+        ∙ (near.wrote.settles.whatever (items_in good_two) good_two.fault (in_order two) may_two).1
 
     -- the second input was read as far as they need
-    beside_by : AsksFor join pair out near.given_first second → HandsUpTo pair.source_b.left (reaches (whole_text two) (take (suc count) (text_lines one)) + block_size) two_before two_after
+    beside_by : AsksFor join pair out w.first_bytes.0 w.second_bytes.0 near.given_first second → length two_read.bytes ≤ reaches two (take (suc count) (text_lines one.text)) + block_size
     beside_by asks =
-        let read = asks.near known in
-        let handed = handed_to pair.source_b pair.second begins_second second ended_second read.count two f read.near near.wrote.second_bytes in
+        let read = asks.near in
+        let text = w.second_bytes.0 ++ others.rest in
+        let handed = handed_to pair.source_b pair.second begins_second second ended_second w.second_bytes.1 read.count others.rest others.follows read.near in
         let rest = of_two (λ good. (rest : List (Member Y)) × (good.members ≡ asks.past ++ rest) × IsBeyond read.count (record { members = rest; fault = good.fault })) read.behind in
-        let needs = needed (member_items near.given_first) (member_items given_on.0) asks.past rest.0 good_two.fault (text_lines two) read.count asks.reached rest.2 in
-        grind (arith, given_on, needs, rest)
+        let needs = needed (member_items near.given_first) (member_items given_on.0) asks.past rest.0 good_two.fault (text_lines text) read.count asks.reached rest.2 in
+        let whole : good_two ≡ record { members = asks.past ++ rest.0; fault = good_two.fault } = ap (λ members. record { members = members; fault = good_two.fault }) rest.1 in
+        let all : join.reaches (member_items near.given_first ++ member_items given_on.0) (record { members = asks.past ++ rest.0; fault = good_two.fault }) (text_lines text) ≡ reaches two (take (suc count) (text_lines one.text)) =
+        ap (λ (g : Good Y). join.reaches (member_items near.given_first ++ member_items given_on.0) g (text_lines text)) (sym whole)
+        ∙ ap (λ (xs : List X). join.reaches xs good_two (text_lines text)) (sym given_on.1)
+        ∙ ap (λ (t : Handed). join.reaches (items_on (take (suc count) (text_lines one.text))) good_two (text_lines t.text)) (sym others.is) in
+        omega (arith, handed, needs, all)
 
-    beside : HasNoMore pair first count ⊎ AsksFor join pair out near.given_first second → IsWithin (pair.source_a.end_told one_after) one (suc count)
-        → HandsUpTo pair.source_b.left (reaches (whole_text two) (take (suc count) (text_lines one)) + block_size) two_before two_after
-    beside p1 within = grind (arith, beside_by)
+    beside : HasNoMore pair w.first_bytes.0 first count ⊎ AsksFor join pair out w.first_bytes.0 w.second_bytes.0 near.given_first second → IsWithin one_read.told one.text (suc count)
+        → length two_read.bytes ≤ reaches two (take (suc count) (text_lines one.text)) + block_size
+    beside (inr asks) within = beside_by asks
+    beside (inl none) (inl untold) = absurd (false≢true (sym untold ∙ none.0))
+    beside (inl none) (inr more) =
+        let same : text_lines one.text ≡ lines_coming w.first_bytes.0 pair.first.below =
+        ap (λ (t : Handed). text_lines t.text) holds.is ∙ ap (λ l. text_lines (w.first_bytes.0 ++ l)) (holds.follows none.0) ∙ ap text_lines (append-nil w.first_bytes.0) ∙ sym (begins.lines w.first_bytes.0) in
+        absurd (omega (arith, more, none.1, ap length same))
 
   -- how far both inputs were read
-  pub near_both : (one two before taken : List ℕ) → pair.source_a.left one_before ≡ Some one → pair.source_b.left two_before ≡ Some two → out.put ≡ Some before → out.took ≡ Some taken
-      → ReadsNoFurther (λ n. IsWithin (pair.source_a.end_told one_after) one n → HandsUpTo pair.source_b.left (reaches (whole_text two) (take n (text_lines one)) + block_size) two_before two_after)
-      (λ lines. (good first_format First lines).fault) (settles (whole_text two)) one (pair.source_a.left one_after) before grown.took (grown.has_failed ≡ true) (IsFaultButWrite fault) grown.put
-  near_both one two before taken e f put took =
-      let handed = handed_to pair.source_a pair.first begins first ended count one e near.first_near.to.near near.wrote.first_bytes in
+  pub near_both : (n : ℕ) × ((one two : Handed) (before taken : List ℕ) → MayHold one_read one → MayHold two_read two → out.put ≡ Some before → out.took ≡ Some taken
+      → ReadsNoFurther n (IsWithin one_read.told one.text n → length two_read.bytes ≤ reaches two (take n (text_lines one.text)) + block_size)
+      (λ lines. (good first_format First lines).fault) (settles two) one.text one_read.bytes before grown.took (grown.has_failed ≡ true) (IsFaultButWrite fault) grown.put)
+  near_both = (suc count, λ one two before taken holds others put took.
       let less : suc count - 1 ≡ count = omega arith in
-      let same : near.bytes ≡ settles (whole_text two) (take count (text_lines one)) = sym (settled one two e f) in
-      let lines : TookButBlock out (settles (whole_text two) (take count (text_lines one))) grown = subst (λ l. TookButBlock out l grown) same near.took in
+      let same : near.bytes ≡ settles two (take count (text_lines one.text)) = sym (settled one two holds others) in
+      let lines : TookButBlock out (settles two (take count (text_lines one.text))) grown = subst (λ l. TookButBlock out l grown) same near.took in
+      let handed = handed_to pair.source_a pair.first begins first ended w.first_bytes.1 count holds.rest holds.follows near.first_near.to.near in
       record {
-        n = suc count;
         some = omega arith;
-        faultless = rw less (faultless one two e f);
-        handed = handed.0;
-        consumed = subst (λ o. Consumes o (pair.source_a.left one_after) handed.0) e handed.1;
-        read = handed.2;
+        faultless = rw less (ap (λ (g : Good X). g.fault) (on_first one two holds others));
+        read = subst (λ (t : Handed). length w.first_bytes.0 ≤ bytes_in (take (suc count) (text_lines t.text)) + block_size) (sym holds.is) handed;
         settled = rw less (lines.took before taken put took);
         kept = rw less (elim lines.put [ inl failed ↦ inl failed | inr kept ↦ inr (kept before put) ]);
         exact = rw less (λ stops. w.exact stops before put ∙ ap (λ l. Some (before ++ l)) same);
-        beside = beside one two e f near.beside;
-      }
+        beside = beside one two holds others near.beside;
+      })
 
 -- Lemmas on what is consumed of the records that a reader has buffered, once their batch was given.
 

@@ -50,7 +50,7 @@ module _ {A B O : Type 0} {g : Ghosts O} (source_a : Source A) (source_b : Sourc
         (passes_start source_b (view_of second) fresh_second) block;
     first_order = refl;
     second_order = refl;
-    fits = λ known. within_start (order_in first) config.limit [];
+    fits = within_start (order_in first) config.limit [];
   }
 
 -- ---- how much is still wanted
@@ -228,7 +228,9 @@ module _ {A B O : Type 0} {g : Ghosts O} {source_a : Source A} {source_b : Sourc
       Ending answer = (stage : Stage Feature Feature) (a : Feature) → StandsAt order stage sweep → stage.waiting ≡ Some a → IsInOrder order stage → EndsB order stage a sweep grown answer (state_of now.sweep) later
 
       ending : {T : Type 0} (answer : Result T Fault) → Ending answer → EndsB (order_in start.first) s.sweeps.stage (waiting s wants).0 sweep grown answer (state_of now.sweep) later
-      ending answer ends = grind (arith, (waiting s wants), (in_order s))
+      ending {T} answer ends =
+          subst (λ (o : Order). EndsB o s.sweeps.stage (waiting s wants).0 sweep grown answer (state_of now.sweep) later) s.order_is
+          (ends s.sweeps.stage (waiting s wants).0 (subst (λ (o : Order). StandsAt o s.sweeps.stage sweep) (sym s.order_is) s.sweeps.stands) (waiting s wants).1 (subst (λ (o : Order). IsInOrder o s.sweeps.stage) (sym s.order_is) (in_order s)))
 
       pub second_over : {T : Type 0} (answer : Result T Fault) → sweep_order now.sweep ≡ order → Ending answer → Leads Filled answer now later
       second_over (Ok done) same_order ends =
@@ -260,7 +262,7 @@ module _ {A B O : Type 0} {g : Ghosts O} {source_a : Source A} {source_b : Sourc
 
       -- whether the first input has ended doesn't change
       same_done : is_done swept.phase ≡ is_done sweep.phase
-      same_done = grind (arith, (placed_first s takes), (placed_second s takes))
+      same_done = ap is_done ((gives.stands s.sweeps.stage s.sweeps.stands (placed_first s takes) (placed_second s takes)).stands.phase_is ∙ sym s.sweeps.stands.phase_is)
 
       abbrev waits : Sweeping → ℕ
       waits sweep = length (option_to_list sweep.current)

@@ -1,5 +1,5 @@
 -- Lemmas on records that a sweep is given of what two readers have buffered.
-use Rattle.bt_lines.proofs.Std.{rules, arith, ◌≡◌, inl, inr, ℕ, suc, true, ◌&&◌, not, List, [], ◌∷◌, ◌++◌, Option, None, Some, Ok, Err, Result, refl, sym, ap, ◌∙◌, subst, append-nil, append_assoc, option_to_list, IfSome, option_map, list_all, and_parts, not-true, map-append, Bool, false, filter, length, bytes_eq, ltb, ◌<◌, is_some, false≢true, and_from, lt-ltb}
+use Rattle.bt_lines.proofs.Std.{◌⊎◌, rules, arith, ◌≡◌, inl, inr, ℕ, suc, true, ◌&&◌, not, List, [], ◌∷◌, ◌++◌, Option, None, Some, Ok, Err, Result, refl, sym, ap, ◌∙◌, subst, append-nil, append_assoc, option_to_list, IfSome, option_map, list_all, and_parts, not-true, map-append, Bool, false, filter, length, bytes_eq, ltb, ◌<◌, is_some, false≢true, and_from, lt-ltb}
 use Rattle.bt_lines.specs.declared.device.Source.{Ghosts as Source}
 use Rattle.bt_lines.specs.calls.Output.{Output, FailsToAdd, Grown}
 use Rattle.bt_lines.specs.calls.Reader.{lines_given}
@@ -25,8 +25,8 @@ use Rattle.bt_sweep.specs.calls.SweepView.{state_of}
 use Rattle.bt_sweep.specs.model.Hits.{decided, held_for, is_held}
 use Rattle.bt_sweep.specs.declared.sweep.state.Phase.{Phase}
 use Rattle.bt_sweep.proofs.lemmas.sweep.KeepLemmas.{decided_before, undecided_beside}
-use Rattle.bt_tool.specs.inside.Pair.{item_ahead, IsKnown, JoinDef, Pair, SettlesPair, Comes, AsksFor, PairEnds}
-use Rattle.bt_tool.specs.inside.Feed.{HasTaken, ConsumesGiven, member_items, PassesMembers, StopsAfter}
+use Rattle.bt_tool.specs.inside.Pair.{item_ahead, JoinDef, Pair, SettlesPair, Comes, AsksFor, PairEnds}
+use Rattle.bt_tool.specs.inside.Feed.{HasFaultBehind, HasTaken, ConsumesGiven, LacksMemory, member_items, PassesMembers, StopsAfter}
 use Rattle.bt_tool.proofs.lemmas.running.pair.PairNear.{first_then, line_then}
 use Rattle.bt_tool.proofs.lemmas.running.members.PassedLemmas.{last_up_to, is_filled, is_over, is_stopped, said_in_order}
 use Rattle.bt_lines.specs.model.Fault.{FaultValue}
@@ -48,7 +48,7 @@ use Rattle.bt_tool.specs.declared.loops.sweeping.SweepRun.{SweepRun}
 use Rattle.bt_tool.proofs.lemmas.running.pair.PairTurns.{TakesFurther, settles_seen}
 use Rattle.bt_tool.specs.inside.SweepLoop.{AreWithin, SweepComes, ReadsRest, Sweeps, config_of, records_pair, sweep_join, sweep_rounds}
 use Rattle.bt_tool.proofs.lemmas.running.sweep.SweepFacts.{leaves_more, cuts_at, within_given, fits_each, open_last, settles_newly}
-use Rattle.bt_tool.proofs.lemmas.running.members.MemberLemmas.{items_from}
+use Rattle.bt_tool.proofs.lemmas.running.members.MemberLemmas.{items_from, nothing_ahead}
 use Rattle.bt_tool.proofs.lemmas.running.pair.PairStops as stop
 use Rattle.bt_tool.proofs.lemmas.running.pair.PairTurns as turned
 
@@ -124,9 +124,16 @@ says_bed : (order : Order) (format : Format Feature (Option Locus)) → format �
 says_bed order format is state line kind e = wrong_of_bed order state line.text kind (ap (λ (f : Format Feature (Option Locus)). f.says state line) (sym is) ∙ e)
 
 -- a fault of some kinds is one of wider kinds
-stops_wider : {S A State : Type 0} (device : Source S) (old : MemberReader S A State) (Narrow Wide : Kind → Type 0) → ((kind : Kind) → Narrow kind → Wide kind)
+cause_wider : {S A State : Type 0} (device : Source S) (old : MemberReader S A State) (Narrow Wide : Kind → Type 0) → ((kind : Kind) → Narrow kind → Wide kind)
+    → (bytes : List ℕ) (past : List (Member A)) (fault : FaultValue) (new : MemberReader S A State) → HasFaultBehind device old Narrow bytes past fault new ⊎ LacksMemory device old fault new → HasFaultBehind device old Wide bytes past fault new ⊎ LacksMemory device old fault new
+cause_wider device old Narrow Wide wider bytes past fault new (inl (inl wrong)) =
+    inl (inl (record { whole = wrong.whole; line = wrong.line; kind = wrong.kind; is = wrong.is; of_kind = wider wrong.kind wrong.of_kind; served = wrong.served; clear = wrong.clear; within = wrong.within }))
+cause_wider device old Narrow Wide wider bytes past fault new (inl (inr unread)) = inl (inr unread)
+cause_wider device old Narrow Wide wider bytes past fault new (inr lacks) = inr lacks
+
+abbrev stops_wider : {S A State : Type 0} (device : Source S) (old : MemberReader S A State) (Narrow Wide : Kind → Type 0) → ((kind : Kind) → Narrow kind → Wide kind)
     → (past : List (Member A)) (fault : FaultValue) (new : MemberReader S A State) → StopsAfter device old Narrow past fault new → StopsAfter device old Wide past fault new
-stops_wider device old Narrow Wide wider past fault new stops = grind arith
+stops_wider device old Narrow Wide wider past fault new stops = record { bytes = stops.bytes; cause = cause_wider device old Narrow Wide wider stops.bytes.0 past fault new stops.cause }
 
 -- the first of the same records
 item_same : (m n : ℕ) (xs ys : List Feature) → xs ≡ ys → option_map (λ (m : Member Feature). m.item) (first_from m xs) ≡ option_map (λ m. m.item) (first_from n ys)
@@ -176,8 +183,8 @@ module _ {A B O : Type 0} {g : Ghosts O} {source_a : Source A} {source_b : Sourc
   -- with the member ahead too many would be held
   limit_case : {fault : FaultValue} (first_now : Records A O g) (second_now : Records B O g) → order_in second_now ≡ order → {later : Stage Feature Feature} {last : Feature} → later.waiting ≡ Some last → later.second_ended ≡ false
       → {past_first past_second : List (Member Feature)} {grown : Output}
-      → Comes join pair out later past_first past_second (view_of first_now) (view_of second_now) grown → (later.first_ended ≡ false → AsksFor join pair out past_first (view_of second_now))
-      → (IsKnown pair → AreWithin order config.limit (given later) past_second) → {m : Member Feature} → ahead_in (view_of second_now) ≡ Some m → m.item.chrom ≡ last.chrom → m.item.start < last.stop → last.start < m.item.stop → order.knows last.chrom ≡ true
+      → (comes : Comes join pair out later past_first past_second (view_of first_now) (view_of second_now) grown) → (later.first_ended ≡ false → AsksFor join pair out comes.first_passes.bytes.0 comes.second_passes.bytes.0 past_first (view_of second_now))
+      → (AreWithin order config.limit (given later) past_second) → {m : Member Feature} → ahead_in (view_of second_now) ≡ Some m → m.item.chrom ≡ last.chrom → m.item.start < last.stop → last.start < m.item.stop → order.knows last.chrom ≡ true
       → has_room config.limit (length (held_for (Some last) later.taken)) ≡ false → fault ≡ fault_at_line Second m.line TooManyHeld → Ends (Some fault) first_now second_now grown
   limit_case {fault} first_now second_now is_order {later} {last} waits going {past_second} comes asks fits {m} ahead on starts ends known full is =
       let placed = second_placed past_second (view_of second_now) comes.second_passes in
@@ -190,10 +197,10 @@ module _ {A B O : Type 0} {g : Ghosts O} {source_a : Source A} {source_b : Sourc
       ap (decided order last) items ∙ none_before order last (member_items past_second) m.item c.begun.total known with_m (undecided_beside order c.begun.total last m.item known on starts) in
       let parts : given later ≡ later.written ++ last ∷ [] = ap (λ (o : Option Feature). later.written ++ option_to_list o) waits in
       let held : is_held last m.item ≡ true = and_from (bytes_eq last.chrom m.item.chrom) (ltb last.start m.item.stop) (name_eq last.chrom m.item.chrom (sym on)) (lt-ltb last.start m.item.stop ends) in
-      stop.passes_limit comes asks fits waits m ahead TooManyHeld (inr ((grind arith), refl)) fault is undecided (λ known_now.
-      cuts_at order config.limit later.written last past_second m is (subst (λ (l : List Feature). AreWithin order config.limit l past_second) parts (fits known_now))
+      stop.passes_limit comes asks fits waits m ahead TooManyHeld (inr ((grind arith), refl)) fault is undecided (
+      cuts_at order config.limit later.written last past_second m is (subst (λ (l : List Feature). AreWithin order config.limit l past_second) parts fits)
       (subst (λ (l : List Feature). list_all (λ x. decided order x l) later.written ≡ true) (sym items)
-      (((comes.settles known_now).whatever (member_items past_second ++ m.item ∷ []) (Some no_memory) with_m
+      ((comes.settles.whatever (member_items past_second ++ m.item ∷ []) (Some no_memory) with_m
       (record {
         begins = (
           [],
@@ -238,13 +245,13 @@ module _ {A B O : Type 0} {g : Ghosts O} {source_a : Source A} {source_b : Sourc
   abbrev asked : join.Asks (given stage) stage.taken
   asked = s.stands.holds.reached
 
-  asks_here : stage.first_ended ≡ false → AsksFor join pair out s.past_first (view_of second)
+  asks_here : stage.first_ended ≡ false → AsksFor join pair out s.comes.first_passes.bytes.0 s.comes.second_passes.bytes.0 s.past_first (view_of second)
   asks_here going = stop.asks_now s.comes asked
 
   -- no more was taken, and the sweep is at another stage
   goes_on : (first_now : Records A O g) (second_now : Records B O g) (swept : Sweeping) (now : Output) (next : Stage Feature Feature) → StandsAt order next swept → config_of swept ≡ config
       → Comes join pair out next s.past_first s.past_second (view_of first_now) (view_of second_now) now → order_in first_now ≡ order_in first → order_in second_now ≡ order_in second
-      → (IsKnown pair → AreWithin order config.limit (given next) s.past_second) → Going first_now second_now swept now
+      → (AreWithin order config.limit (given next) s.past_second) → Going first_now second_now swept now
   goes_on first_now second_now swept now next stands config_is comes same same_second fits = grind arith
 
   -- ---- a record of the first input is wanted
@@ -298,13 +305,13 @@ module _ {A B O : Type 0} {g : Ghosts O} {source_a : Source A} {source_b : Sourc
         goes_on first second_now swept now (with_second_ended stage) moves.stands (moved swept (with_second_ended stage) moves)
         (turned.ends_waiting s.comes goes (view_of second_now) (is_over source_b second second_now fills) a waiting.1 now
         (by_config (λ c. Grown grown (lines_for c.shape c.rule a stage.taken) now) adds))
-        refl fills.order (λ known. subst (λ (gs : List Feature). AreWithin order config.limit gs s.past_second) (sym (append-nil (given stage))) (s.fits known))
+        refl fills.order (subst (λ (gs : List Feature). AreWithin order config.limit gs s.past_second) (sym (append-nil (given stage))) s.fits)
 
     -- it is undecided where nothing more of the second is buffered
-    opens : IsKnown pair → (view_of second).buffered ≡ [] → decided order a stage.taken ≡ false
-    opens known none =
+    opens : (view_of second).buffered ≡ [] → decided order a stage.taken ≡ false
+    opens none =
         let seen = turned.seen_alone stage.taken (view_of second) none in
-        let all = ((s.comes.settles known).whatever stage.taken (Some no_memory) placed_taken (record { begins = ([], sym (append-nil stage.taken) ∙ ap (λ (l : List Feature). l ++ []) (sym seen)); all = λ e. absurd (false≢true (sym goes ∙ e)) })).0 in
+        let all = (s.comes.settles.whatever stage.taken (Some no_memory) placed_taken (record { begins = ([], sym (append-nil stage.taken) ∙ ap (λ (l : List Feature). l ++ []) (sym seen)); all = λ e. absurd (false≢true (sym goes ∙ e)) })).0 in
         grind (arith, waiting, open_last, placed_taken, placed_given)
 
     pub stops_second : (fault : Fault) (second_now : Records B O g) → FillsRecords source_b second (Err fault) second_now → Ends (Some (fault_value fault)) first second_now grown
@@ -326,10 +333,10 @@ module _ {A B O : Type 0} {g : Ghosts O} {source_a : Source A} {source_b : Sourc
     abbrev more_second : List (Member Feature)
     more_second = members_from (suc (lines_given (below second))) ss
 
-    further : TakesFurther source_a (view_of old_first) s.past_first more_first (view_of first) (view_of first_now)
+    further : TakesFurther source_a (view_of old_first) s.comes.first_passes.bytes.0 s.past_first more_first (view_of first) (view_of first_now)
     further = turned.takes_further source_a (view_of old_first) s.past_first (view_of first) s.comes.first_passes fs (view_of first_now) takes.first_taken
 
-    further_second : TakesFurther source_b (view_of old_second) s.past_second more_second (view_of second) (view_of second_now)
+    further_second : TakesFurther source_b (view_of old_second) s.comes.second_passes.bytes.0 s.past_second more_second (view_of second) (view_of second_now)
     further_second = turned.takes_further source_b (view_of old_second) s.past_second (view_of second) s.comes.second_passes ss (view_of second_now) takes.second_taken
 
     items_first : member_items more_first ≡ fs
@@ -362,7 +369,8 @@ module _ {A B O : Type 0} {g : Ghosts O} {source_a : Source A} {source_b : Sourc
     ended_second e = let none = none_second e in (ap (members_from (suc (lines_given (below second)))) none.0, none.1)
 
     not_ended_with : (m : Member Feature) → ahead_in (view_of second_now) ≡ Some m → (b : Bool) → stage.second_ended ≡ b → b ≡ false
-    not_ended_with m ahead b e = grind (arith, none_second)
+    not_ended_with m ahead true e = absurd (nothing_ahead (view_of second_now) m (none_second e).1 ahead)
+    not_ended_with m ahead false e = refl
 
     -- what is seen of the second input grows
     seen_by : (b : Bool) → stage.second_ended ≡ b → (xs : List Feature) → ss ≡ xs → SettlesPair join stage.written s.comes.bytes (stage.taken ++ option_to_list (item_ahead (view_of second))) b
@@ -373,8 +381,8 @@ module _ {A B O : Type 0} {g : Ghosts O} {source_a : Source A} {source_b : Sourc
         let rest = xs ++ option_to_list (item_ahead (view_of second_now)) in
         grind (arith, (append_assoc stage.taken (x ∷ []) rest), (append_assoc stage.taken (x ∷ xs) (option_to_list (item_ahead (view_of second_now)))), settles_seen)
 
-    settled_seen : IsKnown pair → SettlesPair join stage.written s.comes.bytes ((stage.taken ++ ss) ++ option_to_list (item_ahead (view_of second_now))) stage.second_ended
-    settled_seen known = seen_by stage.second_ended refl ss refl (s.comes.settles known)
+    settled_seen : SettlesPair join stage.written s.comes.bytes ((stage.taken ++ ss) ++ option_to_list (item_ahead (view_of second_now))) stage.second_ended
+    settled_seen = seen_by stage.second_ended refl ss refl s.comes.settles
 
     ends_then : sweep.phase ≡ SecondEnded → (stage.second_ended ≡ true) × (item_ahead (view_of second_now) ≡ None)
     ends_then first_is_left =
@@ -389,12 +397,12 @@ module _ {A B O : Type 0} {g : Ghosts O} {source_a : Source A} {source_b : Sourc
         settles_newly c.begun.total config newly settles placed ends_then ss stage.taken refl each
 
     -- the limit lies as far
-    decided_first : IsKnown pair → (b : Feature) (more : List Feature) → ss ≡ b ∷ more → AreDecided order stage.written (stage.taken ++ b ∷ [])
-    decided_first known b more is =
+    decided_first : (b : Feature) (more : List Feature) → ss ≡ b ∷ more → AreDecided order stage.written (stage.taken ++ b ∷ [])
+    decided_first b more is =
         let same : (view_of second).buffered ≡ b ∷ (more ++ (view_of second_now).buffered) = takes.second_taken.takes.buffered ∙ ap (λ (l : List Feature). l ++ (view_of second_now).buffered) is in
         let ahead : item_ahead (view_of second) ≡ Some b = item_same (suc (lines_given (below second))) 0 (view_of second).buffered (b ∷ (more ++ (view_of second_now).buffered)) same in
         let front = front_placed order (stage.taken ++ b ∷ []) more (subst (λ (l : List Feature). ArePlaced order (intervals_of l)) (ap (λ (l : List Feature). stage.taken ++ l) is ∙ sym (append_assoc stage.taken (b ∷ []) more)) placed_second) in
-        ((s.comes.settles known).whatever (stage.taken ++ b ∷ []) (Some no_memory) front
+        (s.comes.settles.whatever (stage.taken ++ b ∷ []) (Some no_memory) front
         (record { begins = ([], sym (append-nil (stage.taken ++ b ∷ [])) ∙ ap (λ (o : Option Feature). (stage.taken ++ option_to_list o) ++ []) (sym ahead)); all = λ e. absurd (let none : b ∷ more ≡ [] = sym is ∙ (none_second e).0 in cc) })).0
 
     module _ (newly : List Feature) (w : Option Feature) (are : option_to_list sweep.current ++ fs ≡ newly ++ option_to_list w) where
@@ -412,13 +420,13 @@ module _ {A B O : Type 0} {g : Ghosts O} {source_a : Source A} {source_b : Sourc
           placed_back order stage.written newly
           (front_placed order (stage.written ++ newly) (option_to_list w) (subst (λ (l : List Feature). ArePlaced order (intervals_of l)) (sym given_later) placed_first))
 
-      fits_later : TakenEach order config.limit (option_to_list sweep.current ++ fs) stage.taken ss → IsKnown pair → AreWithin order config.limit (given later) (s.past_second ++ more_second)
-      fits_later each known =
+      fits_later : TakenEach order config.limit (option_to_list sweep.current ++ fs) stage.taken ss → AreWithin order config.limit (given later) (s.past_second ++ more_second)
+      fits_later each =
           let whole : stage.written ++ (option_to_list stage.waiting ++ fs) ≡ given stage ++ fs = sym (append_assoc stage.written (option_to_list stage.waiting) fs) in
           subst (λ (l : List Feature). AreWithin order config.limit l (s.past_second ++ more_second)) (whole ∙ sym given_later)
           (fits_each c.begun.total config.limit stage.written (option_to_list stage.waiting ++ fs) (subst (λ (l : List Feature). ArePlaced order (intervals_of l)) (sym whole) placed_first) (suc (lines_given (below second))) ss s.past_second
-          (sym s.comes.all_taken) placed_second (decided_first known) (subst (λ (o : Option Feature). TakenEach order config.limit (option_to_list o ++ fs) stage.taken ss) s.stands.current_is each)
-          (subst (λ (l : List Feature). AreWithin order config.limit l s.past_second) (sym whole) (within_given order config.limit (given stage) fs s.past_second (s.fits known))))
+          (sym s.comes.all_taken) placed_second decided_first (subst (λ (o : Option Feature). TakenEach order config.limit (option_to_list o ++ fs) stage.taken ss) s.stands.current_is each)
+          (subst (λ (l : List Feature). AreWithin order config.limit l s.past_second) (sym whole) (within_given order config.limit (given stage) fs s.past_second s.fits)))
 
       -- the lines of some more, which are settled then, weren't all written
       cuts_later : TakenEach order config.limit (option_to_list sweep.current ++ fs) stage.taken ss → Settles order sweep.phase newly (ss ++ option_to_list (item_ahead (view_of second_now)))
@@ -426,17 +434,28 @@ module _ {A B O : Type 0} {g : Ghosts O} {source_a : Source A} {source_b : Sourc
       cuts_later each settles fault now fails =
           let items : given later ≡ given stage ++ member_items more_first = given_later ∙ ap (λ (l : List Feature). given stage ++ l) (sym items_first) in
           stop.fails_to_write s.comes asks_here s.fits more_first more_second further further_second (option_to_list w) items
-          (λ known. subst (λ (l : List Feature). AreWithin order config.limit l (s.past_second ++ more_second)) items (fits_later each known)) ended_second
-          (λ known. subst (λ (l : List Feature). SettlesPair join (stage.written ++ newly) (s.comes.bytes ++ intersect config.shape config.rule newly (stage.taken ++ ss)) ((stage.taken ++ l) ++ option_to_list (item_ahead (view_of second_now))) stage.second_ended) (sym items_second)
-          (settled_more stage.written newly s.comes.bytes newly_placed settles (settled_seen known))) (grown_none grown) fails
+          (subst (λ (l : List Feature). AreWithin order config.limit l (s.past_second ++ more_second)) items (fits_later each)) ended_second
+          (subst (λ (l : List Feature). SettlesPair join (stage.written ++ newly) (s.comes.bytes ++ intersect config.shape config.rule newly (stage.taken ++ ss)) ((stage.taken ++ l) ++ option_to_list (item_ahead (view_of second_now))) stage.second_ended) (sym items_second)
+          (settled_more stage.written newly s.comes.bytes newly_placed settles settled_seen)) (grown_none grown) fails
 
       module _ (each : Settles order sweep.phase newly (ss ++ option_to_list (item_ahead (view_of second_now)))) (now : Output) (puts : PutsEach order sweep fs ss newly grown now) where
         comes_later : Comes join pair out later (s.past_first ++ more_first) (s.past_second ++ more_second) (view_of first_now) (view_of second_now) now
         comes_later =
             turned.goes_on s.comes further further_second ended_first ended_second
             (record { given_is = given_later ∙ ap (λ (l : List Feature). given stage ++ l) (sym items_first); written_is = refl; taken_is = ap (λ (l : List Feature). stage.taken ++ l) (sym items_second); first_is = refl; second_is = refl })
-            (intersect config.shape config.rule newly (stage.taken ++ ss)) now (λ known. settled_more stage.written newly s.comes.bytes newly_placed each (settled_seen known))
+            (intersect config.shape config.rule newly (stage.taken ++ ss)) now (settled_more stage.written newly s.comes.bytes newly_placed each settled_seen)
             (by_config (λ c. Grown grown (intersect c.shape c.rule newly (stage.taken ++ ss)) now) (puts stage s.stands placed_first placed_second))
+
+        -- the second input is still wanted
+        asks_later : later.first_ended ≡ false → AsksFor join pair out comes_later.first_passes.bytes.0 comes_later.second_passes.bytes.0 (s.past_first ++ more_first) (view_of second_now)
+        unfolding comes_later
+        asks_later going =
+            subst (λ bytes. AsksFor join pair out comes_later.first_passes.bytes.0 bytes (s.past_first ++ more_first) (view_of second_now))
+            (sym (turned.goes_bytes s.comes further further_second ended_first ended_second
+            (record { given_is = given_later ∙ ap (λ (l : List Feature). given stage ++ l) (sym items_first); written_is = refl; taken_is = ap (λ (l : List Feature). stage.taken ++ l) (sym items_second); first_is = refl; second_is = refl })
+            (intersect config.shape config.rule newly (stage.taken ++ ss)) now (settled_more stage.written newly s.comes.bytes newly_placed each settled_seen)
+            (by_config (λ c. Grown grown (intersect c.shape c.rule newly (stage.taken ++ ss)) now) (puts stage s.stands placed_first placed_second))).1)
+            (stop.asks_then s.comes asked (λ more asks. leaves_more order (given stage) more stage.taken asks) more_first more_second (view_of second_now) further_second)
 
   module _ {first_now : Records A O g} {second_now : Records B O g} {firsts seconds last_firsts last_seconds : Batch}
       (consumes : ConsumesGiven source_a first firsts last_firsts first_now) (consumes_second : ConsumesGiven source_b second seconds last_seconds second_now) where
@@ -481,9 +500,6 @@ module _ {A B O : Type 0} {g : Ghosts O} {source_a : Source A} {source_b : Sourc
         let each = by_config (λ c. TakenEach order c.limit (option_to_list sweep.current ++ fs) stage.taken ss) (fails.proceeds.each stage s.stands placed placed_taken) in
         let past_first = s.past_first ++ members_from (suc (lines_given (below first))) fs in
         let past_second = s.past_second ++ members_from (suc (lines_given (below second))) ss in
-        let asks : stage.first_ended ≡ false → AsksFor join pair out past_first (view_of second_now) =
-        λ going. stop.asks_then s.comes asked (λ more asks. leaves_more order (given stage) more stage.taken asks)
-        (members_from (suc (lines_given (below first))) fs) (members_from (suc (lines_given (below second))) ss) (view_of second_now) (further_second takes) in
         elim fails.cause [
           | inl write ↦ cuts_later takes fails.proceeds.newly fails.waiting fails.proceeds.are each settles fault now
               (by_config (λ c. FailsToAdd grown (intersect c.shape c.rule fails.proceeds.newly (stage.taken ++ ss)) fault now) (write stage s.stands placed placed_taken))
@@ -494,6 +510,7 @@ module _ {A B O : Type 0} {g : Ghosts O} {source_a : Source A} {source_b : Sourc
                 let ahead = first_then source_b second second_now seconds last_seconds consumes_second lack.shares.b lack.shares.after lack.shares.gives in
                 let are = fails.proceeds.are ∙ ap (λ (o : Option Feature). fails.proceeds.newly ++ option_to_list o) lack.shares.waits in
                 let comes = comes_later takes fails.proceeds.newly (Some last) are settles now lack.puts in
+                let asks = asks_later takes fails.proceeds.newly (Some last) are settles now lack.puts in
                 let fits = fits_later takes fails.proceeds.newly (Some last) are each in
                 let placed_last = placed_back order (stage.written ++ fails.proceeds.newly) (last ∷ []) (subst (λ (l : List Feature). ArePlaced order (intervals_of l)) (sym (given_later takes fails.proceeds.newly (Some last) are)) placed) in
                 let lacks = subst (λ (n : ℕ). CannotBeHeld sweep.limit last (stage.taken ++ ss) n fault) (line_then source_b second second_now seconds last_seconds consumes_second lack.shares.b lack.shares.after lack.shares.gives) (lack.lacks stage s.stands placed placed_taken) in
@@ -506,6 +523,7 @@ module _ {A B O : Type 0} {g : Ghosts O} {source_a : Source A} {source_b : Sourc
             | inr keep ↦
                 let are = fails.proceeds.are ∙ ap (λ (o : Option Feature). fails.proceeds.newly ++ option_to_list o) keep.waits in
                 let fits = fits_later takes fails.proceeds.newly (Some keep.last) are each in
+                let asks = asks_later takes fails.proceeds.newly (Some keep.last) are settles now keep.puts in
                 stop.lacks_memory (comes_later takes fails.proceeds.newly (Some keep.last) are settles now keep.puts) asks fits fault keep.is
           ]
         ]
@@ -520,10 +538,10 @@ module _ {A B O : Type 0} {g : Ghosts O} {source_a : Source A} {source_b : Sourc
         → Ends (fault_in result) first second_now grown
     finishes_both {T} (Ok unit) second_now reads =
         let checks = subst (λ (o : Order). ReadsRest {T = T} source_b (IsBedKind o) (view_of second) (Ok unit) (view_of second_now)) (s.second_order ∙ c.begun.same_order) reads (view_of old_second) s.past_second s.comes.second_passes wrong_bed in
-        stop.ends_rest s.comes asks_here s.fits done (view_of second_now) (λ some. absurd (false≢true (ap is_some (sym checks.1.going) ∙ some))) checks.1.bytes (s.past_second ++ checks.0) None
-        (inl (refl, checks.2, record { served = checks.1.served; within = checks.1.kept.within checks.1.clear }, refl))
+        stop.ends_rest s.comes asks_here s.fits done (view_of second_now) checks.1.bytes (record { later = checks.3; low = λ some. absurd (false≢true (ap is_some (sym checks.1.going) ∙ some)) }) (s.past_second ++ checks.0) None
+        (inl (refl, checks.2, record { served = checks.1.served; clear = checks.1.clear; within = checks.1.kept.within checks.1.clear }, refl))
     finishes_both {T} (Err fault) second_now reads =
         let checks = subst (λ (o : Order). ReadsRest {T = T} source_b (IsBedKind o) (view_of second) (Err fault) (view_of second_now)) (s.second_order ∙ c.begun.same_order) reads (view_of old_second) s.past_second s.comes.second_passes wrong_bed in
-        stop.stops_rest s.comes asks_here s.fits done (view_of second_now) (λ some. checks.low) (s.past_second ++ checks.more) (fault_value fault)
+        stop.stops_rest s.comes asks_here s.fits done (view_of second_now) (s.past_second ++ checks.more) (fault_value fault)
         (stops_wider source_b (view_of old_second) (IsBedKind order) join.second_kinds (λ kind of_bed. inl of_bed) (s.past_second ++ checks.more) (fault_value fault) (view_of second_now) checks.stops)
-        (λ e. checks.before_end (s.comes.second_all e).2) refl
+        (record { later = checks.later; low = λ some. checks.low }) (λ e. checks.before_end (s.comes.second_all e).2) refl

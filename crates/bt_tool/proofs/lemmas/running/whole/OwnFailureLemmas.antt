@@ -1,13 +1,13 @@
 -- Lemmas on failed reads that are reported: each is of a read that failed in the run, whatever its source did before.
-use Rattle.bt_lines.proofs.Std.{false, refl, suc, ◌≡◌, ℕ, Option, None, Some, Err, List, [], ap, sym, subst, ◌∙◌, inl, inr, arith, ◌≢◌, ◌⊎◌, ◌≤◌, MatchResult, Ok, Result, false≢true, option_map, ◌-◌, ◌^◌, ◌++◌, take, IfSome}
+use Rattle.bt_lines.proofs.Std.{false, true, refl, suc, ◌≡◌, ℕ, Option, None, Some, Err, List, [], ap, sym, subst, ◌∙◌, inl, inr, arith, ◌≢◌, ◌⊎◌, ◌≤◌, MatchResult, Ok, Result, false≢true, option_map, ◌-◌, ◌^◌, ◌++◌, take, drop, length, append-nil, append_assoc, take-append-drop}
 use Rattle.bt_lines.specs.declared.device.Source.{Ghosts as Source}
-use Rattle.bt_lines.proofs.lemmas.reader.block.ReadsLemmas.{all_served, memory_no_read, one_failed, some_is}
+use Rattle.bt_lines.proofs.lemmas.reader.block.ReadsLemmas.{all_served, memory_no_read, none_failed, one_failed, some_is}
 use Rattle.bt_lines.specs.model.Fault.{FaultValue, read_failed}
 use Rattle.bt_lines.specs.calls.Faults.{no_memory, write_failed}
 use Rattle.bt_lines.specs.calls.Device.{FailsAfter, ReadsOn, begun}
 use Rattle.bt_lines.specs.calls.Names.{fault_value}
 use Rattle.bt_lines.specs.calls.Output.{Output}
-use Rattle.bt_lines.specs.calls.Reader.{IsReadFailed, bytes_taken, fault_kept as line_fault, source_of, Hands, IsSound, end_told, input_of, fault_kept, feeds_taken, lines_coming, lines_given, lines_left}
+use Rattle.bt_lines.specs.calls.Reader.{IsReadFailed, bytes_taken, fault_kept as line_fault, source_of, Hands, IsSound, end_told, input_of, fault_kept, feeds_taken, lines_coming, lines_given}
 use Rattle.bt_lines.specs.declared.fault.Fault.{Fault}
 use Rattle.bt_lines.specs.declared.fault.Input.{Input}
 use Rattle.bt_lines.specs.declared.fault.Input.TheVariants.{First, Second, Genome as FromGenome}
@@ -22,11 +22,10 @@ use Rattle.bt_bed.specs.declared.order.genome.Genome.{Genome as GenomeTable}
 use Rattle.bt_bed.specs.model.Genome.{Entry, genome_of}
 use Rattle.bt_lines.specs.model.Lines.{Handed, TextLine, text_lines, whole_text}
 use Rattle.bt_lines.specs.calls.Line.{line_feeds}
-use Rattle.bt_bed.proofs.lemmas.read.good.KnownLemmas.{at_end, lines_before_known}
 use Rattle.bt_bed.specs.calls.GenomeTable.{entries, EntryIsWrong, EntryUnread, ReadsAll, ReadingStops, StopCause, is_genome_kind}
 use Rattle.bt_tool.specs.model.Report.{chromosomes_of, of_file}
 use Rattle.bt_tool.specs.model.Behaviour.{behaviour_of}
-use Rattle.bt_tool.specs.calls.Inputs.{Holds, OfBoth, Reads, ReadsIf}
+use Rattle.bt_tool.specs.calls.Inputs.{CameOf, InputRead, MayHold, OfBoth, ReadsAs, ReadsSo}
 use Rattle.bt_tool.specs.calls.Run.{IsOfInput, TellsInputIf, RunsAlone, RunsBy, AnswersNoRead, IsOwnFailure, ReadsServe, TellsNoRead, TellsOwnReads, KnowsChromosomes, LacksChromosomes}
 use Rattle.bt_tool.proofs.lemmas.running.feed.WritingLemmas.{behaves_alone}
 use Rattle.bt_tool.specs.inside.Feed.{FeedStopCause, HasFaultBehind, FeedsUpTo, Flushes, IsKeptBelow}
@@ -34,8 +33,7 @@ use Rattle.bt_tool.specs.inside.Pair.{InputsEnd, JoinDef, Pair, PairEnds, Why}
 use Rattle.bt_tool.specs.model.Written.{IsOneOf}
 use Rattle.bt_tool.specs.model.TwoInputs.{IsSweptKind}
 use Rattle.bt_tool.specs.declared.planning.plan_type.Command.{Command}
-use Rattle.bt_tool.proofs.lemmas.running.members.CursorLemmas.{BeginsAt, some_of, cut_text, handed_all, handed_part}
-use Rattle.bt_lines.proofs.lemmas.reader.lines.LeftLemmas.{all_left}
+use Rattle.bt_tool.proofs.lemmas.running.members.CursorLemmas.{BeginsAt, ReadOf, below_bound, came_is_all, came_is_cut, past_bound, read_of}
 use Rattle.bt_lines.proofs.lemmas.reader.lines.TextLemmas.{whole_count, whole_front}
 
 pub bed_no_read : (order : Order) → IsBedKind order ReadFailed → ⊥
@@ -131,8 +129,8 @@ same_input : (one other : Input) (m n : ℕ) → read_failed one m ≡ read_fail
 same_input one other m n e = grind arith
 
 behind_own : {S A State : Type 0} (device : Source S) {format : Format A State} {which : Input} {before after : S} {old new : MemberReader S A State}
-    → BeginsAt device.left format which before old → source_of new.below ≡ after → (Kinds : Kind → Type 0) → (Kinds ReadFailed → ⊥) → (bytes : List ℕ) × Hands device old.below bytes new.below → IsKeptBelow new new.below
-    → (past : List (Member A)) (other : FaultValue) → HasFaultBehind device old Kinds past other new
+    → BeginsAt format which before old → source_of new.below ≡ after → (Kinds : Kind → Type 0) → (Kinds ReadFailed → ⊥) → (hands : (bytes : List ℕ) × Hands device old.below bytes new.below) → IsKeptBelow new new.below
+    → (past : List (Member A)) (other : FaultValue) → HasFaultBehind device old Kinds hands.0 past other new
     → (input : Input) (line : ℕ) → other ≡ read_failed input line → (input ≡ which) × IsOwnFailure device.is_read before after
 behind_own device begins ended Kinds never hands kept past other (inl wrong) input line e =
     absurd (never (subst Kinds (ap (λ (f : FaultValue). f.kind) (sym wrong.is ∙ e)) wrong.of_kind))
@@ -165,13 +163,13 @@ module _ {F S : Type 0} {fault : Option FaultValue} where
     }
 
 -- the members of the first input were fed to an engine up to a fault
-module _ {S A State : Type 0} (device : Source S) {format : Format A State} {first : S} {old : MemberReader S A State} (begins : BeginsAt device.left format First first old)
+module _ {S A State : Type 0} (device : Source S) {format : Format A State} {first : S} {old : MemberReader S A State} (begins : BeginsAt format First first old)
     (new : MemberReader S A State) {last : S} (ended : source_of new.below ≡ last) (kept : IsKeptBelow new new.below) where
   pub feeds_own : {settled : List A → List ℕ} (Kinds : Kind → Type 0) → (Kinds ReadFailed → ⊥) → (Sorted : List A → Type 0) {out : Output} {fault : FaultValue} {grown : Output}
       → FeedsUpTo settled Kinds Sorted device old out fault new grown → TellsOwnReads ⊥ (IsOwnFailure device.is_read first last) ⊥ (Some fault)
   feeds_own {settled} Kinds never Sorted {out} {fault} {grown} fed = go fed.cause
     where
-      go : FeedStopCause settled Kinds Sorted device old out fed.past fault new grown → TellsOwnReads ⊥ (IsOwnFailure device.is_read first last) ⊥ (Some fault)
+      go : FeedStopCause settled Kinds Sorted device old out fed.took.bytes.0 fed.past fault new grown → TellsOwnReads ⊥ (IsOwnFailure device.is_read first last) ⊥ (Some fault)
       go (inl taking) =
           elim taking.cause [
             | inl fails ↦ own_of_first fault refl (behind_own device begins ended Kinds never fed.took.bytes kept fed.past fault fails)
@@ -181,7 +179,7 @@ module _ {S A State : Type 0} (device : Source S) {format : Format A State} {fir
 
 -- a run over two readers ended
 module _ {A B X Y U V : Type 0} {join : JoinDef X Y} {pair : Pair A B X Y U V} {out : Output} {first_format : Format X U} {second_format : Format Y V}
-    {one_before : A} {two_before : B} (begins : BeginsAt pair.source_a.left first_format First one_before pair.first) (begins_second : BeginsAt pair.source_b.left second_format Second two_before pair.second)
+    {one_before : A} {two_before : B} (begins : BeginsAt first_format First one_before pair.first) (begins_second : BeginsAt second_format Second two_before pair.second)
     {first : MemberReader A X U} {second : MemberReader B Y V} {one_after : A} {two_after : B} (ended : source_of first.below ≡ one_after) (ended_second : source_of second.below ≡ two_after) {fault : Option FaultValue} {grown : Output}
     (w : PairEnds join pair out fault first second grown) (no_first : join.first_kinds ReadFailed → ⊥) (no_second : join.second_kinds ReadFailed → ⊥) (kept : IsKeptBelow first first.below) (kept_second : IsKeptBelow second second.below) where
   pub both_own : TellsOwnReads ⊥ (IsOwnFailure pair.source_a.is_read one_before one_after) (IsOwnFailure pair.source_b.is_read two_before two_after) fault
@@ -190,16 +188,16 @@ module _ {A B X Y U V : Type 0} {join : JoinDef X Y} {pair : Pair A B X Y U V} {
       Tells : Type 0
       Tells = TellsOwnReads ⊥ (IsOwnFailure pair.source_a.is_read one_before one_after) (IsOwnFailure pair.source_b.is_read two_before two_after) fault
 
-      first_own : (past : List (Member X)) (other : FaultValue) → fault ≡ Some other → HasFaultBehind pair.source_a pair.first join.first_kinds past other first → Tells
-      first_own past other is fails = own_of_first other is (behind_own pair.source_a begins ended join.first_kinds no_first w.wrote.first_bytes kept past other fails)
+      first_own : (past : List (Member X)) (other : FaultValue) → fault ≡ Some other → HasFaultBehind pair.source_a pair.first join.first_kinds w.first_bytes.0 past other first → Tells
+      first_own past other is fails = own_of_first other is (behind_own pair.source_a begins ended join.first_kinds no_first w.first_bytes kept past other fails)
 
-      second_own : (past : List (Member Y)) (other : FaultValue) → fault ≡ Some other → HasFaultBehind pair.source_b pair.second join.second_kinds past other second → Tells
-      second_own past other is fails = own_of_second other is (behind_own pair.source_b begins_second ended_second join.second_kinds no_second w.wrote.second_bytes kept_second past other fails)
+      second_own : (past : List (Member Y)) (other : FaultValue) → fault ≡ Some other → HasFaultBehind pair.source_b pair.second join.second_kinds w.second_bytes.0 past other second → Tells
+      second_own past other is fails = own_of_second other is (behind_own pair.source_b begins_second ended_second join.second_kinds no_second w.second_bytes kept_second past other fails)
 
       of_kind : (other : FaultValue) (line : ℕ) (kind : Kind) → fault ≡ Some other → other ≡ fault_at_line Second line kind → join.second_kinds kind → Tells
       of_kind other line kind is at of = own_of_none (λ input n e. no_second (subst join.second_kinds (ap (λ (f : FaultValue). f.kind) (sym at ∙ some_is other (read_failed input n) (sym is ∙ e))) of))
 
-      ended_own : InputsEnd join pair out w.written w.wrote.given w.wrote.ended first second fault → Tells
+      ended_own : InputsEnd join pair out w.first_bytes.0 w.second_bytes.0 w.written w.wrote.given w.wrote.ended first second fault → Tells
       ended_own (inl stops) = first_own stops.2.past stops.0 stops.1 stops.2.cause
       ended_own (inr (inl stops)) = second_own stops.2.past stops.0 stops.1 stops.2.fails.cause
       ended_own (inr (inr (inr stops))) = of_kind stops.0 stops.2.m.line stops.2.kind stops.1 stops.2.is stops.2.of_kind
@@ -212,7 +210,7 @@ module _ {A B X Y U V : Type 0} {join : JoinDef X Y} {pair : Pair A B X Y U V} {
             ]
           ]
 
-      own_by : Why join pair out w.written w.bytes w.wrote.given w.wrote.ended first second fault grown → Tells
+      own_by : Why join pair out w.first_bytes.0 w.second_bytes.0 w.written w.bytes w.wrote.given w.wrote.ended first second fault grown → Tells
       own_by (inl (end, puts, works)) = ended_own end
       own_by (inr (inl ran)) = own_of_none (λ input n e. memory_no_read input n (some_is no_memory (read_failed input n) (sym ran.0 ∙ e)))
       own_by (inr (inr cut)) =
@@ -245,30 +243,49 @@ module _ {A B : Type 0} (source_a : Source A) (source_b : Source B) (command : C
 
 module _ {G : Type 0} {device : Source G} {genome after : G} {old : LineReader G} (new : LineReader G) (source : source_of old ≡ genome) (ended : source_of new ≡ after) (input : input_of old ≡ FromGenome)
     (fresh : bytes_taken old ≡ 0) (unfed : feeds_taken old ≡ 0) (none_given : lines_given old ≡ 0) (clear : fault_kept old ≡ None) (untold : end_told old ≡ false) (all : (rest : List ℕ) → lines_coming rest old ≡ text_lines rest) (sound : IsSound device old) where
-  at_genome : (text : List ℕ) (P : List TextLine → Type 0) → device.left genome ≡ Some text → IfSome (lines_left device.left old) P → P (text_lines text)
-  at_genome text P e h = some_of (lines_left device.left old) (text_lines text) P (all_left device.left old untold all ∙ ap (option_map text_lines) (ap device.left source ∙ e)) h
+  -- what is so of the lines of each text that the file may have
+  of_whole : (rest : List ℕ) (result : Result (List Entry) FaultValue) → genome_of (input_of old) (lines_coming rest old) ≡ result → chromosomes_of (Some (whole_text rest)) ≡ of_file result
+  of_whole rest result is = ap of_file (ap (λ i. genome_of i (text_lines rest)) (sym input) ∙ ap (genome_of (input_of old)) (sym (all rest)) ∙ is)
 
-  -- the whole text is of the lines that were known
-  of_whole : (result : Result (List Entry) FaultValue) → IfSome (lines_left device.left old) (λ lines. genome_of (input_of old) lines ≡ result) → (text : List ℕ) → device.left genome ≡ Some text → chromosomes_of (Some (whole_text text)) ≡ of_file result
-  of_whole result is text e = ap of_file (ap (λ i. genome_of i (text_lines text)) (sym input) ∙ at_genome text (λ lines. genome_of (input_of old) lines ≡ result) e is)
+  module _ {bytes : List ℕ} (hands : Hands device old bytes new) where
+    unfoldable pub of_genome : ReadOf device old bytes new
+    of_genome = read_of device hands untold clear
+
+    abbrev pub read : InputRead
+    read = record { bytes = bytes; told = end_told new; failed = of_genome.failed }
+
+    reads_so : ReadsSo device.is_read genome read after
+    reads_so =
+        subst (λ (s : G). ReadsAs (end_told new) of_genome.failed device.is_read s bytes after) source
+        (subst (λ (s : G). ReadsAs (end_told new) of_genome.failed device.is_read (source_of old) bytes s) ended of_genome.reads)
+
+    counted : length bytes ≡ bytes_taken new
+    counted = omega (arith, hands.counted, fresh)
+
+    -- if no read failed, and the bound wasn't passed
+    came_all : {handed : Handed} → CameOf read handed → fault_kept new ≡ None → IsSound device new → MayHold read handed
+    came_all came going next = came_is_all came (λ e. none_failed (fault_kept new) going (of_genome.kept e)) (below_bound (length bytes) (omega (arith, counted, next.within going)))
 
   module _ {table : GenomeTable} (reads : ReadsAll device old new table) (next : IsSound device new) where
-    tells : (text : List ℕ) → device.left genome ≡ Some text → chromosomes_of (Some (whole_text text)) ≡ Ok (Some (entries table))
-    tells = of_whole (Ok (entries table))
-        (lines_before_known device old new reads.bytes.1 (λ lines. genome_of (input_of old) lines ≡ Ok (entries table))
-        (λ rest follows. at_end reads.bytes.0 (λ l. genome_of (input_of old) (lines_coming l old) ≡ Ok (entries table)) reads.is rest (follows reads.told)))
+    abbrev hands : Hands device old reads.bytes.0 new
+    hands = reads.bytes.1
 
-    tells_read : (handed : Option Handed) → ReadsIf device (Some genome) (Some after) handed → chromosomes_of handed ≡ Ok (Some (entries table))
-    tells_read None came = absurd came
-    tells_read (Some handed) came =
-        subst (λ h. chromosomes_of (Some h) ≡ Ok (Some (entries table))) (sym (handed_all device old new source ended fresh handed came (reads.bytes.0, reads.bytes.1) reads.served (next.within reads.going))) (tells came.text came.known)
+    tells : (handed : Handed) → MayHold (read hands) handed → chromosomes_of (Some handed) ≡ Ok (Some (entries table))
+    tells handed holds =
+        let none : reads.bytes.0 ++ holds.rest ≡ reads.bytes.0 = ap (λ l. reads.bytes.0 ++ l) (holds.follows reads.told) ∙ append-nil reads.bytes.0 in
+        ap (λ h. chromosomes_of (Some h)) (holds.is ∙ ap whole_text none) ∙ of_whole reads.bytes.0 (Ok (entries table)) reads.is
 
-    tells_held : (handed : Option Handed) → OfBoth (Holds device.left) (Some genome) handed → chromosomes_of handed ≡ Ok (Some (entries table))
+    tells_held : (handed : Option Handed) → OfBoth MayHold (Some (read hands)) handed → chromosomes_of handed ≡ Ok (Some (entries table))
     tells_held None holds = absurd holds
-    tells_held (Some handed) holds = subst (λ h. chromosomes_of (Some h) ≡ Ok (Some (entries table))) (sym holds.is) (tells holds.text holds.known)
+    tells_held (Some handed) holds = tells handed holds
 
-    pub knows_read : KnowsChromosomes device (Some genome) (Some after) (Some table)
+    tells_read : (handed : Option Handed) → OfBoth CameOf (Some (read hands)) handed → chromosomes_of handed ≡ Ok (Some (entries table))
+    tells_read None came = absurd came
+    tells_read (Some handed) came = tells handed (came_all hands came reads.going next)
+
+    knows_read : KnowsChromosomes device (Some genome) (Some (read hands)) (Some after) (Some table)
     knows_read = record {
+      reads = reads_so hands;
       whole = tells_read;
       told = tells_held;
       named = refl;
@@ -277,37 +294,52 @@ module _ {G : Type 0} {device : Source G} {genome after : G} {old : LineReader G
       ended = sym (ap device.end_told ended) ∙ (next.end reads.told).0;
     }
 
+    pub knows_all : (read : Option InputRead) × KnowsChromosomes device (Some genome) read (Some after) (Some table)
+    knows_all = (Some (read hands), knows_read)
+
   module _ (fault : FaultValue) (bytes : (bytes : List ℕ) × Hands device old bytes new) (next : IsSound device new) where
-    unread_text : EntryUnread device old bytes.0 new fault → (handed : Handed) → Reads device genome after handed → chromosomes_of (Some handed) ≡ Err fault
-    unread_text unread handed reads =
-        let texts = cut_text device old new source ended fresh handed reads unfed bytes.0 bytes.1 (unread.fails.cut (record { end = sound.end; within = sound.within })) in
-        let front = take (2 ^ 63 - 1) reads.bytes in
-        let made = at_genome reads.text (λ lines. (entries : List Entry) × (genome_of (input_of old) (take (lines_given new - lines_given old) lines) ≡ Ok entries)) reads.known (lines_before_known device old new bytes.1 (λ lines. (entries : List Entry) × (genome_of (input_of old) (take (lines_given new - lines_given old) lines) ≡ Ok entries)) (λ rest follows. (unread.given, unread.passed rest follows))) in
-        let first : genome_of FromGenome (take (line_feeds front) (text_lines (front ++ texts.more))) ≡ Ok made.0 =
-        ap (λ t. genome_of FromGenome (take (line_feeds front) (text_lines t))) texts.text
-        ∙ ap (λ n. genome_of FromGenome (take n (text_lines reads.text))) (sym (omega (arith, texts.given, none_given)))
-        ∙ ap (λ i. genome_of i (take (lines_given new - lines_given old) (text_lines reads.text))) (sym input) ∙ made.1 in
-        grind (arith, (handed_part device old new source ended fresh handed reads bytes unread.fails.cause), whole_front, whole_count)
+    abbrev was : InputRead
+    was = read bytes.1
 
-    wrong_text : EntryIsWrong device old bytes.0 new fault → (text : List ℕ) → device.left genome ≡ Some text → chromosomes_of (Some (whole_text text)) ≡ Err fault
-    wrong_text wrong = of_whole (Err fault) (lines_before_known device old new bytes.1 (λ lines. genome_of (input_of old) lines ≡ Err fault) wrong.is)
+    -- the bytes that were cut off by a failed read
+    unread_text : EntryUnread device old bytes.0 new fault → (handed : Handed) → CameOf was handed → chromosomes_of (Some handed) ≡ Err fault
+    unread_text unread handed came =
+        let front = take (2 ^ 63 - 1) bytes.0 in
+        let more = drop (2 ^ 63 - 1) bytes.0 ++ came.rest in
+        let text : front ++ more ≡ bytes.0 ++ came.rest = sym (append_assoc front (drop (2 ^ 63 - 1) bytes.0) came.rest) ∙ ap (λ l. l ++ came.rest) (take-append-drop (2 ^ 63 - 1) bytes.0) in
+        let same : line_feeds (take (2 ^ 63 - 1 - bytes_taken old) bytes.0) ≡ line_feeds front = ap (λ n. line_feeds (take (2 ^ 63 - 1 - n) bytes.0)) fresh in
+        let given : lines_given new ≡ line_feeds front = omega (arith, unread.fails.cut (record { end = sound.end; within = sound.within }), unfed, same) in
+        let first : genome_of FromGenome (take (line_feeds front) (text_lines (front ++ more))) ≡ Ok unread.given =
+        ap (λ t. genome_of FromGenome (take (line_feeds front) (text_lines t))) text
+        ∙ ap (λ n. genome_of FromGenome (take n (text_lines (bytes.0 ++ came.rest)))) (sym (omega (arith, given, none_given)))
+        ∙ ap (λ i. genome_of i (take (lines_given new - lines_given old) (text_lines (bytes.0 ++ came.rest)))) (sym input)
+        ∙ ap (λ l. genome_of (input_of old) (take (lines_given new - lines_given old) l)) (sym (all (bytes.0 ++ came.rest))) ∙ unread.passed came.rest came.follows in
+        let kept : IsReadFailed (fault_kept new) = (input_of old, suc (lines_given new), unread.fails.kept ∙ ap Some unread.fails.is) in
+        let cut : handed ≡ record { text = front; is_cut = true } = came_is_cut came (λ e. past_bound (length bytes.0) (omega (arith, counted bytes.1, (of_genome bytes.1).past e kept))) in
+        grind (arith, whole_front, whole_count)
 
-    whole_by : StopCause device old bytes.0 new fault → fault ≢ no_memory → (handed : Option Handed) → ReadsIf device (Some genome) (Some after) handed → chromosomes_of handed ≡ Err fault
+    wrong_text : EntryIsWrong device old bytes.0 new fault → (handed : Handed) → MayHold was handed → chromosomes_of (Some handed) ≡ Err fault
+    wrong_text wrong handed holds = ap (λ h. chromosomes_of (Some h)) holds.is ∙ of_whole (bytes.0 ++ holds.rest) (Err fault) (wrong.is holds.rest holds.follows)
+
+    whole_by : StopCause device old bytes.0 new fault → fault ≢ no_memory → (handed : Option Handed) → OfBoth CameOf (Some was) handed → chromosomes_of handed ≡ Err fault
     whole_by cause memory None reads = absurd reads
-    whole_by (inl wrong) memory (Some handed) reads =
-        subst (λ h. chromosomes_of (Some h) ≡ Err fault) (sym (handed_all device old new source ended fresh handed reads bytes wrong.served (next.within wrong.going))) (wrong_text wrong reads.text reads.known)
-    whole_by (inr (inl unread)) memory (Some handed) reads = unread_text unread handed reads
-    whole_by (inr (inr ran)) memory (Some handed) reads = absurd (memory ran.is)
+    whole_by (inl wrong) memory (Some handed) came = wrong_text wrong handed (came_all bytes.1 came wrong.going next)
+    whole_by (inr (inl unread)) memory (Some handed) came = unread_text unread handed came
+    whole_by (inr (inr ran)) memory (Some handed) came = absurd (memory ran.is)
 
-    told_by : StopCause device old bytes.0 new fault → (handed : Option Handed) → OfBoth (Holds device.left) (Some genome) handed → IsOfInput (Some fault) → chromosomes_of handed ≡ Err fault
+    told_by : StopCause device old bytes.0 new fault → (handed : Option Handed) → OfBoth MayHold (Some was) handed → IsOfInput (Some fault) → chromosomes_of handed ≡ Err fault
     told_by cause None holds of_input = absurd holds
-    told_by (inl wrong) (Some handed) holds of_input = subst (λ h. chromosomes_of (Some h) ≡ Err fault) (sym holds.is) (wrong_text wrong holds.text holds.known)
+    told_by (inl wrong) (Some handed) holds of_input = wrong_text wrong handed holds
     told_by (inr (inl unread)) (Some handed) holds of_input = absurd (of_input.no_read (input_of old) (suc (lines_given new)) (ap Some unread.fails.is))
     told_by (inr (inr ran)) (Some handed) holds of_input = absurd (of_input.no_growth (ap Some ran.is))
 
-    named_by : StopCause device old bytes.0 new fault → TellsInputIf device (IsOneOf is_genome_kind) FromGenome (Some genome) (Some after) fault ⊎ (fault ≡ no_memory)
+    named_by : StopCause device old bytes.0 new fault → TellsInputIf device (IsOneOf is_genome_kind) FromGenome (Some was) (Some after) fault ⊎ (fault ≡ no_memory)
     named_by (inl wrong) = inl (inl (record { line = lines_given new; kind = wrong.kind; of_kind = wrong.of_line; is = wrong.place ∙ ap (λ i. fault_at_line i (lines_given new) wrong.kind) input }))
-    named_by (inr (inl unread)) = let fails = unread.fails in grind arith
+    named_by (inr (inl unread)) = inl (inr (record {
+      line = suc (lines_given new);
+      is = unread.fails.is ∙ ap (λ i. read_failed i (suc (lines_given new))) input;
+      cause = elim unread.fails.cause [ inl failed ↦ inl (ap device.has_failed (sym ended) ∙ failed) | inr past ↦ inr (omega (arith, counted bytes.1, past)) ];
+    }))
     named_by (inr (inr ran)) = inr ran.is
 
     no_write_by : StopCause device old bytes.0 new fault → fault ≢ write_failed
@@ -315,11 +347,11 @@ module _ {G : Type 0} {device : Source G} {genome after : G} {old : LineReader G
     no_write_by (inr (inl unread)) e = let apart : WriteFailed ≡ ReadFailed = ap (λ (f : FaultValue). f.kind) (sym e ∙ unread.fails.is) in cc
     no_write_by (inr (inr ran)) e = let apart : WriteFailed ≡ OutOfMemory = ap (λ (f : FaultValue). f.kind) (sym e ∙ ran.is) in cc
 
-    lacks_by : StopCause device old bytes.0 new fault → LacksChromosomes device (Some genome) (Some after) fault
-    lacks_by cause = record { whole = λ handed reads memory. whole_by cause memory handed reads; told = told_by cause; named = named_by cause; no_write = no_write_by cause }
+    lacks_by : StopCause device old bytes.0 new fault → LacksChromosomes device (Some genome) (Some was) (Some after) fault
+    lacks_by cause = record { reads = reads_so bytes.1; whole = λ handed reads memory. whole_by cause memory handed reads; told = told_by cause; named = named_by cause; no_write = no_write_by cause }
 
-  pub lacks_read : {fault : FaultValue} → ReadingStops device old new fault → IsSound device new → LacksChromosomes device (Some genome) (Some after) fault
-  lacks_read {fault} stops next = lacks_by fault stops.bytes next (stops.first clear)
+  pub lacks_read : {fault : FaultValue} → ReadingStops device old new fault → IsSound device new → (read : Option InputRead) × LacksChromosomes device (Some genome) read (Some after) fault
+  lacks_read {fault} stops next = (Some (read stops.bytes.1), lacks_by fault stops.bytes next (stops.first clear))
 
   -- a failed read that is reported is of a read that failed then
   module _ (fault : FaultValue) (bytes : (bytes : List ℕ) × Hands device old bytes new) where

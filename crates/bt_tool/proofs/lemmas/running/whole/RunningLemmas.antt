@@ -1,5 +1,5 @@
 -- Lemmas on a run, from its devices to the report on what its inputs hand over.
-use Rattle.bt_lines.proofs.Std.{common_steps, ◌≡◌, ℕ, ◌+◌, Bool, true, false, List, [], ◌++◌, length, take, Option, None, Some, Ok, Err, refl, sym, ap, ◌∙◌, subst, append-nil, append_assoc, arith, inl, inr, ◌⊎◌, ◌≢◌, Result, option_map, append_cancel_left, Appends-nil}
+use Rattle.bt_lines.proofs.Std.{common_steps, ◌≡◌, ℕ, ◌+◌, Bool, true, false, List, [], ◌++◌, length, take, Option, None, Some, Ok, Err, refl, sym, ap, ◌∙◌, subst, append-nil, append_assoc, arith, inl, inr, ◌⊎◌, ◌≢◌, Result, is_some, option_map, append_cancel_left, Appends-nil}
 use Rattle.bt_lines.specs.declared.device.Sink.{Ghosts as Sink}
 use Rattle.bt_lines.specs.declared.device.Source.{Ghosts as Source}
 use Rattle.bt_lines.proofs.lemmas.reader.block.ReadsLemmas.{some_is}
@@ -22,15 +22,16 @@ use Rattle.bt_runs.specs.model.Depth.{settled_depths}
 use Rattle.bt_runs.specs.model.Gaps.{settled_gaps}
 use Rattle.bt_bed.specs.model.Meeting.{Report}
 use Rattle.bt_tool.specs.model.Written.{IsOneOf}
-use Rattle.bt_tool.specs.calls.Run.{KnowsChromosomes, LacksChromosomes, ReadsChromosomes, IsFaultButWrite, IsOfInput, IsPutTo, IsWithin, ReadsNoFurther, TellsDevice, TellsInput, TellsInputIf, WritesBy, Runs, TellsOther, ShowsReport}
+use Rattle.bt_tool.specs.calls.Run.{InputsRead, KnowsChromosomes, LacksChromosomes, ReadsChromosomes, IsFaultButWrite, IsOfInput, IsPutTo, IsWithin, ReadsNoFurther, TellsDevice, TellsInput, TellsInputIf, WritesBy, Runs, TellsOther, ShowsReport}
 use Rattle.bt_tool.specs.inside.Feed.{Flushes, FlushesAll, FlushFails, StaysFailed}
 use Rattle.bt_tool.specs.model.Report.{Inputs, behaviour_on, chromosomes_of, report_of, report_on, answer_of, report, texts_of}
 use Rattle.bt_tool.specs.model.Behaviour.{behaviour_of}
-use Rattle.bt_tool.specs.calls.Inputs.{HandsUpTo, OfBoth}
+use Rattle.bt_tool.specs.calls.Inputs.{InputRead}
+use Rattle.bt_lines.specs.calls.Device.{ReadsOn, begun as begun_reads}
 use Rattle.bt_tool.specs.calls.CommandLine.{ReportsAnswer}
 use Rattle.bt_tool.specs.declared.planning.plan_type.Command.{Command}
 use Rattle.bt_tool.proofs.lemmas.running.whole.OwnFailureLemmas.{WritesOutput}
-use Rattle.bt_tool.proofs.lemmas.running.feed.WritingLemmas.{near_as}
+use Rattle.bt_tool.proofs.lemmas.running.feed.WritingLemmas.{near_as, none_read, none_up_to, reads_none}
 use Rattle.bt_tool.specs.model.Options.{options}
 use Rattle.bt_tool.specs.model.Table.{Word}
 use Rattle.bt_tool.specs.declared.options.usage.Usage.{Usage}
@@ -117,15 +118,24 @@ none_at_fault command chromosomes = grind arith
 other_chromosomes : (chromosomes : Result (Option (List Entry)) FaultValue) (entries : Option (List Entry)) (wrong : FaultValue) → chromosomes ≡ Ok entries → chromosomes ≡ Err wrong → ⊥
 other_chromosomes chromosomes entries wrong o e = cc
 
+-- there are chromosomes exactly if a table of them is there
+named_by_table : (table : Option Genome) → is_some (option_map entries table) ≡ is_some table
+named_by_table None = refl
+named_by_table (Some table) = refl
+
+-- no read
+begun_none : {S : Type 0} {IsRead : S → Option (List ℕ) → S → Type 0} {source : S} → ReadsOn IsRead source [] source
+begun_none = begun_reads
+
 -- a failed write is reported only if the sink failed
 write_by : {P : Type 0} (b last : Bool) → (P → ⊥) → P ⊎ TellsDevice b last write_failed → b ≡ true
 write_by b last other p1 = grind arith
 
 -- an input that wasn't touched was read at most up to its first line
-near_untouched : (Beside : ℕ → Type 0) → ((n : ℕ) → Beside n) → (command : Command) (chromosomes : Result (Option (List Entry)) FaultValue) (second : Option Handed) {text before : List ℕ} {left took more : Option (List ℕ)} → left ≡ Some text → took ≡ Some before → Grows took more
+near_untouched : (Beside : Type 0) → Beside → (command : Command) (chromosomes : Result (Option (List Entry)) FaultValue) (second : Option Handed) {text before : List ℕ} {took more : Option (List ℕ)} → took ≡ Some before → Grows took more
     → (Failed Stops : Type 0) {later : Option (List ℕ)} → Failed ⊎ IsPutTo (length (before ++ [])) later → (Stops → later ≡ Some (before ++ []))
-    → ReadsNoFurther Beside (behaviour_on command chromosomes).faults ((behaviour_on command chromosomes).settles second) text left before more Failed Stops later
-near_untouched Beside has command chromosomes second e t g Failed Stops kept exact = grind (arith, common_steps, none_settle, none_at_fault)
+    → ReadsNoFurther 1 Beside (behaviour_on command chromosomes).faults ((behaviour_on command chromosomes).settles second) text [] before more Failed Stops later
+near_untouched Beside has command chromosomes second t g Failed Stops kept exact = grind (arith, common_steps, none_settle, none_at_fault)
 
 -- a run writes to an output over a sink, which it gives back
 pub record WritesOver {K : Type 0} (sink : Sink K) (out out_after : K) (begun new : Output) : Type 0 where
@@ -141,27 +151,26 @@ module _ {G A B K : Type 0} (source_g : Source G) (source_a : Source A) (source_
   abbrev RunsSo : Type 0
   RunsSo = Runs source_g source_a source_b sink command genome first second out answer genome_after first_after second_after out_after
 
-  abbrev GenomeTells : FaultValue → Type 0
-  GenomeTells t = TellsInputIf source_g (IsOneOf is_genome_kind) FromGenome genome genome_after t
+  abbrev GenomeTells : InputsRead → FaultValue → Type 0
+  GenomeTells read t = TellsInputIf source_g (IsOneOf is_genome_kind) FromGenome read.genome genome_after t
 
-  abbrev OthersTell : FaultValue → Type 0
-  OthersTell t = TellsOther source_g source_a source_b sink command genome first first_after second second_after t
-
-  -- how far the second input was read by the time that this many lines of the first were
-  abbrev Beside : Inputs → ℕ → Type 0
-  Beside inputs n = IsWithin (source_a.end_told first_after) inputs.first.text n
-      → OfBoth (HandsUpTo source_b.left ((behaviour_on command (chromosomes_of inputs.genome)).reaches inputs.second (take n (text_lines inputs.first.text)) + block_size)) second second_after
+  abbrev OthersTell : InputsRead → FaultValue → Type 0
+  OthersTell read t = TellsOther source_g source_a source_b sink command genome read first_after second_after t
 
   -- the chromosomes were read, and the output written by them
-  module _ (table : Option Genome) (knows : KnowsChromosomes source_g genome genome_after table) (writes : WritesBy source_a source_b (behaviour_of command (option_map entries table)) first second begun fault first_after second_after mid) where
+  module _ (table : Option Genome) {genome_read : Option InputRead} (knows : KnowsChromosomes source_g genome genome_read genome_after table) (writes : WritesBy source_a source_b (behaviour_of command (option_map entries table)) first second begun fault first_after second_after mid) where
     abbrev chromosomes : Option (List Entry)
     chromosomes = option_map entries table
+
+    -- what was read of the inputs
+    abbrev read : InputsRead
+    read = record { genome = genome_read; first = writes.one; second = writes.two }
 
     abbrev reported : Inputs → Report
     reported inputs = (behaviour_of command chromosomes).report inputs.first inputs.second
 
     abbrev Tells : FaultValue → Type 0
-    Tells t = TellsInput source_a (behaviour_of command chromosomes).FirstKinds First first first_after t ⊎ TellsInputIf source_b (behaviour_of command chromosomes).SecondKinds Second second second_after t
+    Tells t = TellsInput source_a (behaviour_of command chromosomes).FirstKinds First writes.one first_after t ⊎ TellsInputIf source_b (behaviour_of command chromosomes).SecondKinds Second writes.two second_after t
 
     write_of_others : Tells write_failed → ⊥
     write_of_others p1 = grind arith
@@ -172,8 +181,9 @@ module _ {G A B K : Type 0} (source_g : Source G) (source_a : Source A) (source_
     sink_failed : fault ≡ Some write_failed → mid.sink_has_failed ≡ true
     sink_failed e = write_by mid.sink_has_failed mid.sink_last_failed write_of_others (writes.named write_failed e)
 
-    of_others : (t : FaultValue) → Tells t ⊎ TellsDevice mid.sink_has_failed mid.sink_last_failed t → (GenomeTells t ⊎ OthersTell t) ⊎ TellsDevice mid.sink_has_failed mid.sink_last_failed t
-    of_others t p1 = grind arith
+    of_others : (t : FaultValue) → Tells t ⊎ TellsDevice mid.sink_has_failed mid.sink_last_failed t → (GenomeTells read t ⊎ OthersTell read t) ⊎ TellsDevice mid.sink_has_failed mid.sink_last_failed t
+    of_others t (inl tells) = inl (inr (record { chromosomes = chromosomes; named = named_by_table table ∙ knows.named; of_file = knows.told; tells = tells }))
+    of_others t (inr device) = inr device
 
     report_is : (inputs : Inputs) → chromosomes_of inputs.genome ≡ Ok chromosomes → report_of command inputs ≡ reported inputs
     unfolding report_of
@@ -181,6 +191,8 @@ module _ {G A B K : Type 0} (source_g : Source G) (source_a : Source A) (source_
 
     pub runs_written : RunsSo
     runs_written = record {
+      read = read;
+      reads = record { genome_file = knows.reads; first_input = writes.one_reads; second_input = writes.two_reads };
       whole = λ inputs before reads known served memory.
           let same = report_is inputs (knows.whole inputs.genome reads.genome_file) in
           let w = whole_by begun mid new fault answer (reported inputs).fault (before ++ (reported inputs).output)
@@ -196,11 +208,11 @@ module _ {G A B K : Type 0} (source_g : Source G) (source_a : Source A) (source_
           let f = front_by begun mid new fault answer (writes_over.took ∙ known) writes.grows flushes.grows
           (λ other. writes.kept other inputs.first inputs.second before holds.first_input holds.second_input (writes_over.put ∙ known)) (λ is. writes.cut is inputs.first inputs.second before holds.first_input holds.second_input (writes_over.put ∙ known)) flushes.ends in
           (f.0, f.1, writes_over.took_after ∙ f.2, ap (λ (r : Report). r.output) (report_is inputs (knows.told inputs.genome holds.genome_file)) ∙ f.3);
-      near = λ inputs before holds known.
-          let near = writes.near inputs.first inputs.second before before holds.first_input holds.second_input (writes_over.put ∙ known) (writes_over.took ∙ known) in
-          rw (knows.told inputs.genome holds.genome_file, writes_over.took_after) (near_as _ _ (λ n beside. beside) (λ lines. refl) (λ lines. refl) (mid.has_failed ≡ true)
+      near = (writes.near.0, λ inputs before holds known.
+          let near = writes.near.1 inputs.first inputs.second before before holds.first_input holds.second_input (writes_over.put ∙ known) (writes_over.took ∙ known) in
+          rw (knows.told inputs.genome holds.genome_file, writes_over.took_after) (near_as _ _ (λ beside. beside) (λ lines. refl) (λ lines. refl) (mid.has_failed ≡ true)
           (answer ≡ Some write_failed) (IsFaultButWrite fault) (IsFaultButWrite answer) (λ size. took_more_than begun.took mid.took new.took before size (writes_over.took ∙ known) writes.grows flushes.grows) (λ size kept. kept_by begun mid new fault answer size kept flushes.ends)
-          (λ bytes is stops. exact_by begun mid new fault answer bytes is stops flushes.ends) near);
+          (λ bytes is stops. exact_by begun mid new fault answer bytes is stops flushes.ends) near));
       served = λ none.
           let was = served_by begun mid new fault answer flushes.ends none in
           let devices = writes.served was.0 in
@@ -215,7 +227,11 @@ module _ {G A B K : Type 0} (source_g : Source G) (source_a : Source A) (source_
     }
 
   -- the genome file is at fault, and nothing else was touched
-  module _ (wrong : FaultValue) (lacks : LacksChromosomes source_g genome genome_after wrong) (stops : (fault ≡ Some wrong) × (first_after ≡ first) × (second_after ≡ second) × (mid ≡ begun)) where
+  module _ (wrong : FaultValue) {genome_read : Option InputRead} (lacks : LacksChromosomes source_g genome genome_read genome_after wrong) (stops : (fault ≡ Some wrong) × (first_after ≡ first) × (second_after ≡ second) × (mid ≡ begun)) where
+    -- nothing was read of the others
+    abbrev read_wrong : InputsRead
+    read_wrong = record { genome = genome_read; first = record { bytes = []; told = false; failed = false }; second = none_read second }
+
     report_wrong : (inputs : Inputs) → chromosomes_of inputs.genome ≡ Err wrong → report_of command inputs ≡ record { output = []; fault = Some wrong }
     unfolding report_of
     report_wrong inputs e = ap (λ c. report_on command c inputs.first inputs.second) e
@@ -229,12 +245,15 @@ module _ {G A B K : Type 0} (source_g : Source G) (source_a : Source A) (source_
     no_write : fault ≡ Some write_failed → ⊥
     no_write e = lacks.no_write (some_is wrong write_failed (sym stops.0 ∙ e))
 
-    genome_named : (t : FaultValue) → TellsInputIf source_g (IsOneOf is_genome_kind) FromGenome genome genome_after wrong ⊎ (wrong ≡ no_memory) → wrong ≡ t
-        → (GenomeTells t ⊎ OthersTell t) ⊎ TellsDevice mid.sink_has_failed mid.sink_last_failed t
-    genome_named t p1 e = grind arith
+    genome_named : (t : FaultValue) → TellsInputIf source_g (IsOneOf is_genome_kind) FromGenome genome_read genome_after wrong ⊎ (wrong ≡ no_memory) → wrong ≡ t
+        → (GenomeTells read_wrong t ⊎ OthersTell read_wrong t) ⊎ TellsDevice mid.sink_has_failed mid.sink_last_failed t
+    genome_named t (inl tells) e = inl (inl (subst (GenomeTells read_wrong) e tells))
+    genome_named t (inr ran) e = inr (inr (sym e ∙ ran))
 
     pub runs_wrong : RunsSo
     runs_wrong = record {
+      read = read_wrong;
+      reads = record { genome_file = lacks.reads; first_input = rw stops.1 begun_none; second_input = rw stops.2 (reads_none source_b.is_read second) };
       whole = λ inputs before reads known served memory.
           let w = whole_by begun mid new fault answer (Some wrong) (before ++ [])
           (λ write growth. (stops.0, begun_put before known)) (λ e. absurd (no_write e)) (sym writes_over.failed_after ∙ served) memory flushes.ends in
@@ -248,12 +267,11 @@ module _ {G A B K : Type 0} (source_g : Source G) (source_a : Source A) (source_
           let f = front_by begun mid new fault answer (writes_over.took ∙ known) mid_grows flushes.grows
           (λ other. ([], (report_of command inputs).output, refl, begun_put before known)) (λ is. absurd (no_write is)) flushes.ends in
           (f.0, f.1, writes_over.took_after ∙ f.2, f.3);
-      near = λ inputs before holds known.
-          let text = holds.first_input in
-          rw (text.is, stops.1, stops.2, writes_over.took_after) (near_untouched _ (λ n within. grind arith)
-          command (chromosomes_of inputs.genome) inputs.second text.known (writes_over.took ∙ known) (grows_both begun.took mid.took new.took mid_grows flushes.grows)
+      near = (1, λ inputs before holds known.
+          rw writes_over.took_after (near_untouched _ (λ within. none_up_to _ second)
+          command (chromosomes_of inputs.genome) inputs.second (writes_over.took ∙ known) (grows_both begun.took mid.took new.took mid_grows flushes.grows)
           (answer ≡ Some write_failed) (IsFaultButWrite answer) (kept_by begun mid new fault answer (length (before ++ [])) (inr (before ++ [], begun_put before known, omega arith)) flushes.ends)
-          (λ other. exact_by begun mid new fault answer (before ++ []) (λ was. begun_put before known) other flushes.ends));
+          (λ other. exact_by begun mid new fault answer (before ++ []) (λ was. begun_put before known) other flushes.ends)));
       served = λ none.
           absurd (let apart : None ≡ Some wrong = sym (served_by begun mid new fault answer flushes.ends none).0 ∙ stops.0 in cc);
       after_genome = λ file holds wrong e. (stops.1, stops.2);
@@ -264,8 +282,8 @@ module _ {G A B K : Type 0} (source_g : Source G) (source_a : Source A) (source_
     }
 
   pub runs_by : (chromosomes : Result (Option Genome) Fault) → ReadsChromosomes source_g genome chromosomes genome_after → WritesOutput source_a source_b command first second begun fault first_after second_after mid chromosomes → RunsSo
-  runs_by (Ok table) knows writes = runs_written table knows writes.written
-  runs_by (Err wrong) lacks stops = runs_wrong (fault_value wrong) lacks stops
+  runs_by (Ok table) knows writes = runs_written table knows.1 writes.written
+  runs_by (Err wrong) lacks stops = runs_wrong (fault_value wrong) lacks.1 stops
 
 -- What a user sees of a run is the report.
 

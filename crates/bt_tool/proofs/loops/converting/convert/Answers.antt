@@ -22,7 +22,7 @@ returns-in-Ok g c =
     } in
     record {
       written = writes_all c.args.split c.args.cigar fresh_reader
-          c.new-converter.ensures c.args.out.now.output done.0 (ap source_of done.1 ∙ ended) c.convert_all-converted.new.out.output done.2;
+          c.new-converter.ensures c.args.out.now.output done.0 (ap source_of done.1 ∙ ended) c.convert_all-converted.new.out.output (kept_there done.0 c.convert_all-converted.new.lines done.1 done.3) done.2;
       reads = λ never. (served_of g.A.Source reader.source (ap source_of done.1 ∙ ended) done.2.took.bytes (rw done.1 (c.in-Ok.ensures.none_kept tt)), tt);
       own_failure = tells_nothing ⊥ _ ⊥ None refl;
     }
@@ -45,7 +45,7 @@ returns-in-Err g c =
     } in
     record {
       written = writes_up_to c.args.split c.args.cigar fresh_reader
-          c.new-converter.ensures c.args.out.now.output done.0 (ap source_of done.1 ∙ ended) c.convert_all-converted.new.out.output done.2;
+          c.new-converter.ensures c.args.out.now.output done.0 (ap source_of done.1 ∙ ended) c.convert_all-converted.new.out.output (kept_there done.0 c.convert_all-converted.new.lines done.1 done.3) done.2;
       reads = λ never. (served_of g.A.Source reader.source (ap source_of done.1 ∙ ended) done.2.took.bytes (rw done.1 (c.in-Err.ensures.none_kept never)), tt);
       own_failure = own_up_to c.args.split c.args.cigar fresh_reader c.new-converter.ensures c.args.out.now.output done.0 (ap source_of done.1 ∙ ended) c.convert_all-converted.new.out.output
           (kept_there done.0 c.convert_all-converted.new.lines done.1 done.3) done.2;

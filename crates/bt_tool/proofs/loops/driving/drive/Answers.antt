@@ -34,10 +34,10 @@ returns-in-Err g c =
     let starts = begins_over g.A.Source (view_of c.new-records.result) records.below reader.none_taken.0 reader.none_fed reader.source reader.input reader.going.0 reader.going.2 reader.lines records.good in
     let sorted = records_sorted (g.E.Engine.definition.takes c.args.engine) order (g.met.O.ChromOrder.total c.args.order.now) c.requires.takes in
     let ended = sym (c.into_source-first.ensures ∙ ap source_of c.into_reader.ensures) in
-    let driven : IsDriven written (g.E.Engine.definition.takes c.args.engine) g.A.Source (bed_format (sorting_of order)) (view_of c.new-records.result) c.args.first (view_of c.feed_all-fed.new.records) c.into_source-first.result =
-    record { stays = c.requires.stays; begins = c.requires.begins; taken = sorted; starts = starts; ended = ended } in
+    let driven : IsDriven written (g.E.Engine.definition.takes c.args.engine) (bed_format (sorting_of order)) (view_of c.new-records.result) c.args.first (view_of c.feed_all-fed.new.records) c.into_source-first.result =
+    record { stays = c.requires.stays; begins = c.requires.begins; taken = sorted; starts = starts; ended = ended; kept = c.feed_all-fed.ensures.kept } in
     record {
-      written = rw records.order at (drives_fault driven _ _ _ _ _ c.in-Err.ensures.feeds);
+      written = rw records.order at (drives_fault g.A.Source driven _ _ _ c.in-Err.ensures.feeds);
       reads = λ never. (served_of g.A.Source starts.source ended c.in-Err.ensures.feeds.took.bytes (c.in-Err.ensures.none_kept never), tt);
       own_failure = feeds_own g.A.Source starts (view_of c.feed_all-fed.new.records) ended c.feed_all-fed.ensures.kept
           (IsBedKind (order_in c.new-records.result)) (bed_no_read (order_in c.new-records.result)) (AreInOrder (order_in c.new-records.result)) c.in-Err.ensures.feeds;
@@ -52,14 +52,14 @@ returns-in-Err-finish g c =
     let starts = begins_over g.A.Source (view_of c.new-records.result) records.below reader.none_taken.0 reader.none_fed reader.source reader.input reader.going.0 reader.going.2 reader.lines records.good in
     let sorted = records_sorted (g.E.Engine.definition.takes c.args.engine) order (g.met.O.ChromOrder.total c.args.order.now) c.requires.takes in
     let ended = sym (c.into_source-first.ensures ∙ ap source_of c.into_reader.ensures) in
-    let driven : IsDriven written (g.E.Engine.definition.takes c.args.engine) g.A.Source (bed_format (sorting_of order)) (view_of c.new-records.result) c.args.first (view_of c.feed_all-fed.new.records) c.into_source-first.result =
-    record { stays = c.requires.stays; begins = c.requires.begins; taken = sorted; starts = starts; ended = ended } in
+    let driven : IsDriven written (g.E.Engine.definition.takes c.args.engine) (bed_format (sorting_of order)) (view_of c.new-records.result) c.args.first (view_of c.feed_all-fed.new.records) c.into_source-first.result =
+    record { stays = c.requires.stays; begins = c.requires.begins; taken = sorted; starts = starts; ended = ended; kept = c.feed_all-fed.ensures.kept } in
     let fed = c.in_default.ensures.feeds in
     let takes = c.requires.takes (member_items fed.past) (subst (λ o. ArePlaced o (intervals_of (member_items fed.past))) records.order fed.took.sorted.0) fed.took.sorted.1 in
     let said = finishes_prefix _ c.in-Err-finish.ensures.finishes (c.in-Err-finish.ensures.finishes.going _ _ fed.stands) in
     let cuts = said.cuts _ _ fed.stands takes in
     record {
-      written = rw records.order at (drives_cut driven _ _ _ fed (goes_failed c.feed_all-fed.new.out.output c.finish.new.out.output c.in-Err-finish.ensures.finishes.grows said.failed)
+      written = rw records.order at (drives_cut g.A.Source driven _ _ _ fed (goes_failed c.feed_all-fed.new.out.output c.finish.new.out.output c.in-Err-finish.ensures.finishes.grows said.failed)
           said.is cuts.bytes cuts.goes_on cuts.front said.sink_failed);
       reads = λ never. (served_of g.A.Source starts.source ended fed.took.bytes (c.in_default.ensures.none_kept tt), tt);
       own_failure = tells_write ⊥ _ ⊥ (fault_value c.in-Err-finish.fault) said.is;
@@ -74,13 +74,13 @@ returns g c =
     let starts = begins_over g.A.Source (view_of c.new-records.result) records.below reader.none_taken.0 reader.none_fed reader.source reader.input reader.going.0 reader.going.2 reader.lines records.good in
     let sorted = records_sorted (g.E.Engine.definition.takes c.args.engine) order (g.met.O.ChromOrder.total c.args.order.now) c.requires.takes in
     let ended = sym (c.into_source-first.ensures ∙ ap source_of c.into_reader.ensures) in
-    let driven : IsDriven written (g.E.Engine.definition.takes c.args.engine) g.A.Source (bed_format (sorting_of order)) (view_of c.new-records.result) c.args.first (view_of c.feed_all-fed.new.records) c.into_source-first.result =
-    record { stays = c.requires.stays; begins = c.requires.begins; taken = sorted; starts = starts; ended = ended } in
+    let driven : IsDriven written (g.E.Engine.definition.takes c.args.engine) (bed_format (sorting_of order)) (view_of c.new-records.result) c.args.first (view_of c.feed_all-fed.new.records) c.into_source-first.result =
+    record { stays = c.requires.stays; begins = c.requires.begins; taken = sorted; starts = starts; ended = ended; kept = c.feed_all-fed.ensures.kept } in
     let fed = c.in_default.ensures.feeds in
     let takes = c.requires.takes (member_items fed.past) (subst (λ o. ArePlaced o (intervals_of (member_items fed.past))) records.order fed.took.sorted.0) fed.took.sorted.1 in
     let puts = c.in_default-finish.ensures.finishes.answers.puts _ _ fed.stands takes in
     record {
-      written = rw records.order at (drives_all driven _ _ _ fed (goes_works _ _ c.in_default-finish.ensures.finishes.grows c.in_default-finish.ensures.finishes.answers.works)
+      written = rw records.order at (drives_all g.A.Source driven _ _ _ fed (goes_works _ _ c.in_default-finish.ensures.finishes.grows c.in_default-finish.ensures.finishes.answers.works)
           puts.bytes puts.goes_on puts.appends
           (c.in_default-finish.ensures.finishes.answers.works.sink_served));
       reads = λ never. (served_of g.A.Source starts.source ended fed.took.bytes (c.in_default.ensures.none_kept tt), tt);

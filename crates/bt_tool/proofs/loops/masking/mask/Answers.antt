@@ -39,12 +39,12 @@ returns g c =
     let ended = ap source_of ends.1 ∙ sym c.into_source-first.ensures in
     let ended_second = sym (c.into_source-second.ensures ∙ ap source_of c.into_reader.ensures) in
     record {
-      written = writes_both (λ two. good_in_blocks Second two) (mask_limits c.args.how) begins begins_second ended ended_second ends.2.finishes
+      written = writes_both (λ two. good_in_blocks Second two) (mask_limits c.args.how) begins begins_second ended ended_second ends.2.kept_first ends.2.kept_second ends.2.finishes
           (mask_settles c.args.how c.args.full) (mask_reaches c.args.full) (near_both (λ two. good_in_blocks Second two) (mask_needs c.args.how) begins begins_second
           ended ended_second ends.2.finishes);
       reads = λ never.
           let none = ends.2.none_kept never in
-          let wrote = ends.2.finishes.wrote in
+          let wrote = ends.2.finishes in
           (served_of g.A.Source begins.source ended wrote.first_bytes none.0, served_of g.B.Source begins_second.source ended_second wrote.second_bytes none.1);
       own_failure = both_own begins begins_second ended ended_second ends.2.finishes (λ kind. false≢true kind) (λ kind. false≢true kind) ends.2.kept_first ends.2.kept_second;
     }

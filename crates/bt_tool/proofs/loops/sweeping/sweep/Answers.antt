@@ -54,12 +54,12 @@ returns g c =
     let ended = sym (c.into_source-first.ensures ∙ ap source_of c.into_reader.ensures) in
     let ended_second = sym (c.into_source-second.ensures ∙ ap source_of c.into_reader-2.ensures) in
     record {
-      written = writes_both (λ two. placed_good Second order two c.requires.total) (sweep_limits order c.args.config) begins begins_second ended ended_second ends
+      written = writes_both (λ two. placed_good Second order two c.requires.total) (sweep_limits order c.args.config) begins begins_second ended ended_second c.run_two-fault.ensures.kept_first c.run_two-fault.ensures.kept_second ends
           (intersect_settles order c.args.config.shape c.args.config.rule) (intersect_reaches order)
           (near_both (λ two. placed_good Second order two c.requires.total) (sweep_needs order c.args.config) begins begins_second ended ended_second ends);
       reads = λ never.
           let none = c.run_two-fault.ensures.none_kept never in
-          (served_of g.A.Source begins.source ended ends.wrote.first_bytes none.0, served_of g.B.Source begins_second.source ended_second ends.wrote.second_bytes none.1);
+          (served_of g.A.Source begins.source ended ends.first_bytes none.0, served_of g.B.Source begins_second.source ended_second ends.second_bytes none.1);
       own_failure = both_own begins begins_second ended ended_second ends
           (bed_no_read order) (swept_no_read order c.args.config.limit) c.run_two-fault.ensures.kept_first c.run_two-fault.ensures.kept_second;
     }
