@@ -22,7 +22,6 @@ use Rattle.bt_tool.specs.declared.planning.plan_type.Command.{Command}
 use Rattle.bt_tool.specs.declared.planning.plan_type.Command.TheVariants.{Merge, Complement, Intersect, Subtract, Coverage, BamToBed, MaskFasta}
 use Rattle.bt_lines.specs.model.Fault.{FaultValue}
 use Rattle.bt_lines.specs.declared.fault.Input.TheVariants.{First}
-use Rattle.bt_tool.specs.model.Report.{report}
 
 -- a missing input is as an empty one
 abbrev pub or_empty : Option Handed → Handed
