@@ -5,9 +5,8 @@ use Rattle.bt_lines.specs.calls.Faults.{no_memory, write_failed}
 use Rattle.bt_bed.specs.model.Good.{Good, items_in, or_else, Format, Member, good, good_handed}
 use Rattle.bt_bed.specs.model.Meeting.{Report, Rule, join_report, written}
 use Rattle.bt_tool.specs.inside.Pair.{JoinDef, MayCome, Pair, Serves, PairEnds, FirstStops, InputsEnd, LimitStops, RestStops, SecondFails, SecondStops, Why}
-use Rattle.bt_lines.specs.declared.device.Source.{Ghosts as Source}
 use Rattle.bt_lines.proofs.lemmas.reader.block.ReadsLemmas.{some_is}
-use Rattle.bt_lines.specs.model.Lines.{Handed, whole_text, TextLine, text_lines}
+use Rattle.bt_lines.specs.model.Lines.{Handed, TextLine, text_lines}
 use Rattle.bt_lines.specs.calls.Output.{Output, block_size}
 use Rattle.bt_lines.specs.calls.Reader.{MayStillCome, input_of, lines_given, source_of}
 use Rattle.bt_lines.specs.declared.fault.Input.TheVariants.{First, Second}

@@ -1,5 +1,5 @@
 -- Lemmas on a run, from its devices to the report on what its inputs hand over.
-use Rattle.bt_lines.proofs.Std.{common_steps, ◌≡◌, ℕ, ◌+◌, Bool, true, false, List, [], ◌++◌, length, take, Option, None, Some, Ok, Err, refl, sym, ap, ◌∙◌, subst, append-nil, append_assoc, arith, inl, inr, ◌⊎◌, ◌≢◌, Result, is_some, option_map, append_cancel_left, Appends-nil}
+use Rattle.bt_lines.proofs.Std.{common_steps, ◌≡◌, ℕ, Bool, true, false, List, [], ◌++◌, length, Option, None, Some, Ok, Err, refl, sym, ap, ◌∙◌, subst, append-nil, append_assoc, arith, inl, inr, ◌⊎◌, ◌≢◌, Result, is_some, option_map, append_cancel_left, Appends-nil}
 use Rattle.bt_lines.specs.declared.device.Sink.{Ghosts as Sink}
 use Rattle.bt_lines.specs.declared.device.Source.{Ghosts as Source}
 use Rattle.bt_lines.proofs.lemmas.reader.block.ReadsLemmas.{some_is}
@@ -7,9 +7,9 @@ use Rattle.bt_tool.proofs.lemmas.running.feed.FeedLemmas.{took_more_than}
 use Rattle.bt_lines.proofs.lemmas.Writer.{grows_both}
 use Rattle.bt_lines.specs.model.Fault.{FaultValue}
 use Rattle.bt_lines.specs.calls.Faults.{write_failed, no_memory}
-use Rattle.bt_lines.specs.model.Lines.{Handed, text_lines}
+use Rattle.bt_lines.specs.model.Lines.{Handed}
 use Rattle.bt_lines.specs.calls.Names.{fault_value}
-use Rattle.bt_lines.specs.calls.Output.{Output, IsPrefixOf, Grows, block_size}
+use Rattle.bt_lines.specs.calls.Output.{Output, IsPrefixOf, Grows}
 use Rattle.bt_lines.specs.declared.fault.Fault.{Fault}
 use Rattle.bt_lines.specs.declared.fault.Input.{Input}
 use Rattle.bt_lines.specs.declared.fault.Input.TheVariants.{First, Second, Genome as FromGenome}
@@ -22,7 +22,7 @@ use Rattle.bt_runs.specs.model.Depth.{settled_depths}
 use Rattle.bt_runs.specs.model.Gaps.{settled_gaps}
 use Rattle.bt_bed.specs.model.Meeting.{Report}
 use Rattle.bt_tool.specs.model.Written.{IsOneOf}
-use Rattle.bt_tool.specs.calls.Run.{InputsRead, KnowsChromosomes, LacksChromosomes, ReadsChromosomes, IsFaultButWrite, IsOfInput, IsPutTo, IsWithin, ReadsNoFurther, TellsDevice, TellsInput, TellsInputIf, WritesBy, Runs, TellsOther, ShowsReport}
+use Rattle.bt_tool.specs.calls.Run.{InputsRead, KnowsChromosomes, LacksChromosomes, ReadsChromosomes, IsFaultButWrite, IsOfInput, IsPutTo, ReadsNoFurther, TellsDevice, TellsInput, TellsInputIf, WritesBy, Runs, TellsOther, ShowsReport}
 use Rattle.bt_tool.specs.inside.Feed.{Flushes, FlushesAll, FlushFails, StaysFailed}
 use Rattle.bt_tool.specs.model.Report.{Inputs, behaviour_of, behaviour_on, chromosomes_of, report_of, report_on, answer_of, report, texts_of}
 use Rattle.bt_tool.specs.calls.Inputs.{InputRead}
