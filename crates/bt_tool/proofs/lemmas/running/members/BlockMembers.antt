@@ -20,7 +20,7 @@ use Rattle.bt_tool.specs.inside.Feed.{HasTaken, IsReadFor, PassesMembers, StopsA
 use Rattle.bt_tool.proofs.lemmas.running.members.MemberLemmas.{IsFilled, IsOver, IsStopped, bytes_still, come_then, lines_then, members_low}
 use Rattle.bt_tool.proofs.lemmas.running.members.PassedLemmas.{consumed_of}
 use Rattle.bt_lines.proofs.lemmas.reader.block.ReadsLemmas.{hands_both}
-use Rattle.bt_lines.proofs.lemmas.reader.lines.LeftLemmas.{made_coming}
+use Rattle.bt_lines.proofs.lemmas.reader.lines.ComingLemmas.{made_coming}
 use Rattle.bt_lines.proofs.lemmas.reader.lines.TakingLemmas.{sound_near, near_next, prefix_of}
 use Rattle.bt_lines.specs.model.Fault.{FaultValue}
 use Rattle.bt_lines.specs.model.Lines.{TextLine}
