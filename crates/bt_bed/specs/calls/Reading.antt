@@ -6,7 +6,7 @@ use Rattle.bt_lines.specs.calls.Faults.{no_memory}
 use Rattle.bt_lines.specs.model.Lines.{TextLine}
 use Rattle.bt_lines.specs.calls.Names.{fault_value}
 use Rattle.bt_lines.specs.calls.Output.{block_size}
-use Rattle.bt_lines.specs.calls.Reader.{CutsOff, Hands, IsKept, IsNear, IsReadFailed, MayStillCome, end_told, held, input_of, source_of, lines_coming, lines_given, bytes_taken, has_ended, lines_left, room as line_room, fault_kept as line_fault}
+use Rattle.bt_lines.specs.calls.Reader.{CutsOff, Hands, IsKept, IsNear, IsReadFailed, MayStillCome, end_told, held, input_of, source_of, lines_coming, lines_given, bytes_taken, has_ended, room as line_room, fault_kept as line_fault}
 use Rattle.bt_lines.specs.declared.fault.Fault.{Fault}
 use Rattle.bt_lines.specs.declared.fault.Input.{Input}
 use Rattle.bt_lines.specs.declared.fault.Kind.{Kind}
@@ -126,13 +126,6 @@ module _ {S A State : Type 0} where
   unfoldable pub coming : List ℕ → MemberReader S A State → Good A
   coming rest reader =
       good_behind reader.format (input_of reader.below) reader.fault reader.state (lines_coming rest reader.below)
-
-  -- the same, if the source's bytes are known
-  unfoldable pub good_coming : (S → Option (List ℕ)) → MemberReader S A State → Option (Good A)
-  good_coming left reader =
-      option_map
-      (good_behind reader.format (input_of reader.below) reader.fault reader.state)
-      (lines_left left reader.below)
 
   -- the members that are buffered are the first of those that come, whatever follows
   abbrev pub BeginsComing : MemberReader S A State → Type 0

@@ -1,11 +1,10 @@
 -- How carrying out a plan ends, as standard error and the exit status report it.
-use Rattle.std.specs.Prelude.{◌≡◌, ◌≢◌, ◌⊎◌, [], true, Option, None, Some}
+use Rattle.std.specs.Prelude.{◌≡◌, ◌⊎◌, [], true, Option, None, Some}
 use Rattle.bt_lines.specs.calls.Faults.{write_failed}
 use Rattle.bt_lines.specs.declared.device.Sink.{Ghosts as Sink}
 use Rattle.bt_lines.specs.declared.device.Source.{Ghosts as Source}
 use Rattle.bt_lines.specs.model.Fault.{FaultValue}
-use Rattle.bt_tool.specs.calls.Inputs.{OfBoth}
-use Rattle.bt_tool.specs.calls.Run.{IsOwnFailure, IsOwnFailureIf, ReadsServe, Runs, TellsNoRead, TellsOwnReads}
+use Rattle.bt_tool.specs.calls.Run.{Runs}
 use Rattle.bt_tool.specs.model.Options.{PlanSeen}
 use Rattle.bt_tool.specs.model.Report.{fault_text, status_of}
 use Rattle.bt_tool.specs.declared.planning.plan_type.Command.{Command}
@@ -79,11 +78,6 @@ module _ {I O : Type 0} (source : Source I) (sink : Sink O) where
       : Type 0 where
     pub report : Runs source source source sink command genome first second out fault
         genome_after first_after second_after out_after
-    pub reads : fault ≢ Some write_failed → TellsNoRead fault
-        → OfBoth (ReadsServe source.is_read) genome genome_after × ReadsServe source.is_read first first_after
-        × OfBoth (ReadsServe source.is_read) second second_after
-    pub own_failure : TellsOwnReads (IsOwnFailureIf source.is_read genome genome_after)
-        (IsOwnFailure source.is_read first first_after) (IsOwnFailureIf source.is_read second second_after) fault
     pub flushed : (fault ≡ Some write_failed) ⊎ (sink.is_flushed out_after ≡ true)
 
 module _ {F I O : Type 0} (ghosts : Files F I O) (source : Source I) (sink : Sink O) where

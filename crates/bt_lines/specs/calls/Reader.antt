@@ -1,11 +1,11 @@
 -- What a reader of lines holds, what its calls do, and the lines that are left of those buffered.
-use Rattle.std.specs.Prelude.{◌≡◌, ℕ, suc, ◌+◌, ◌-◌, ◌≤◌, Bool, true, false, List, ◌∷◌, drop, length, nat_lt, take, ◌^◌, ◌<◌, ◌⊎◌, [], ◌++◌, Option, Some, None, option_map, Result, Ok, Err, IfSome, IsSome, ⊤, vec_capacity}
+use Rattle.std.specs.Prelude.{◌≡◌, ℕ, suc, ◌+◌, ◌-◌, ◌≤◌, Bool, true, false, List, ◌∷◌, drop, length, nat_lt, take, ◌^◌, ◌<◌, ◌⊎◌, [], ◌++◌, Option, Some, None, Result, Ok, Err, IfSome, IsSome, ⊤, vec_capacity}
 use Rattle.bt_lines.specs.calls.Line.{Shown, ending_at, line_seen, line_feeds}
 use Rattle.bt_lines.specs.model.Lines.{TextLine, lines_from, whole_lines_from, bytes_in, spelled}
 use Rattle.bt_lines.specs.inside.Shape.{is_fed, held_at}
 use Rattle.bt_lines.specs.declared.reader.buffered_lines.BufferedLines.{BufferedLines}
 use Rattle.bt_lines.specs.declared.reader.buffered_lines.ConsumedLines.{ConsumedLines}
-use Rattle.std.specs.Io.KnownBytes.{Consumes, IsAtEnd, prepend_known}
+use Rattle.std.specs.Io.KnownBytes.{Consumes, IsAtEnd}
 use Rattle.bt_lines.specs.declared.device.Source.{Ghosts as Source}
 use Rattle.bt_lines.specs.inside.ReadBuffer.{complete, unread, ended_at, fault_at, open_at, taken_at, told_at}
 use Rattle.bt_lines.specs.calls.Device.{EndsAfter, FailsAfter, ReadsOn}
@@ -76,11 +76,6 @@ pub record IsWhere (cursor : BufferedLines) (consumed : ConsumedLines) : Type 0 
 
 -- What a reader of lines holds, and what one call of `next` does.
 
--- the bytes that come after the lines given: once the end was reported, only those that are held
-abbrev pub left_at : Bool → List ℕ → Option (List ℕ) → Option (List ℕ)
-left_at true held left = option_map (λ bytes. held) left
-left_at false held left = prepend_known held left
-
 -- a failed read is kept
 abbrev pub IsReadFailed : Option FaultValue → Type 0
 IsReadFailed kept = (input : Input) × (line : ℕ) × (kept ≡ Some (read_failed input line))
@@ -116,15 +111,6 @@ module _ {S : Type 0} where
   -- how many bytes may still come: it falls with each line given
   abbrev pub room : LineReader S → ℕ
   room reader = (2 ^ 63 - bytes_taken reader) + length (held reader)
-
-  -- the bytes that come after the lines given, if they are known
-  unfoldable pub bytes_left : (S → Option (List ℕ)) → LineReader S → Option (List ℕ)
-  bytes_left left reader = left_at (end_told reader) (held reader) (left (source_of reader))
-
-  -- the lines that come after those given, if they are known
-  abbrev pub lines_left : (S → Option (List ℕ)) → LineReader S → Option (List TextLine)
-  lines_left left reader =
-      option_map (lines_from (suc (lines_given reader))) (bytes_left left reader)
 
   -- the lines that come after those given, if these bytes come from the source
   unfoldable pub lines_coming : List ℕ → LineReader S → List TextLine

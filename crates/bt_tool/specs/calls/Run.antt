@@ -19,7 +19,6 @@ use Rattle.bt_bed.specs.declared.order.genome.Genome.{Genome as GenomeTable}
 use Rattle.bt_tool.specs.model.Report.{chromosomes_of, Inputs, behaviour_on, report_of, report, seen_of, texts_of}
 use Rattle.bt_tool.specs.model.Behaviour.{Behaviour, behaviour_of}
 use Rattle.bt_tool.specs.calls.Inputs.{CameOf, HandsUpTo, InputRead, MayHold, OfBoth, ReadsSo, ReadsSoIf, ServesIf}
-use Rattle.bt_lines.specs.calls.Device.{FailsAfter, ReadsOn}
 use Rattle.bt_lines.specs.declared.device.Sink.{Ghosts as Sink}
 use Rattle.bt_lines.specs.declared.fault.Place.{Place}
 use Rattle.bt_bed.specs.model.Genome.{Entry}
@@ -42,12 +41,13 @@ pub record TellsLine (Kinds : Kind → Type 0) (input : Input) (fault : FaultVal
   pub of_kind : Kinds kind
   pub is : fault ≡ fault_at_line input line kind
 
--- a failed read, reported only if the source has failed, or handed over more bytes than a text may have
+-- a failed read, reported only if the last read of the run failed, which its source tells, or if more bytes
+-- were handed over than a text may have
 pub record TellsRead {S : Type 0} (device : Source S) (input : Input)
     (read : InputRead) (after : S) (fault : FaultValue) : Type 0 where
   pub line : ℕ
   pub is : fault ≡ read_failed input line
-  pub cause : (device.has_failed after ≡ true) ⊎ (2 ^ 63 ≤ length read.bytes)
+  pub cause : ((read.failed ≡ true) × (device.has_failed after ≡ true)) ⊎ (2 ^ 63 ≤ length read.bytes)
 
 -- a fault of an input: of a line, or of reading it
 abbrev pub TellsInput : {S : Type 0} → Source S → (Kind → Type 0) → Input
@@ -101,6 +101,18 @@ abbrev pub IsReported : Report → List ℕ → Option FaultValue → Output →
 IsReported report before fault grown =
     (fault ≡ report.fault) × (grown.put ≡ Some (before ++ report.output))
 
+-- no failed read is reported
+abbrev pub TellsNoRead : Option FaultValue → Type 0
+TellsNoRead fault = (input : Input) (line : ℕ) → fault ≢ Some (read_failed input line)
+
+abbrev pub AnswersNoRead : {T : Type 0} → Result T Fault → Type 0
+AnswersNoRead (Ok done) = ⊤
+AnswersNoRead (Err fault) = TellsNoRead (Some (fault_value fault))
+
+-- no read of an input that may not be there failed
+abbrev pub NoneFailed : Option InputRead → Type 0
+NoneFailed read = IfSome read (λ read. read.failed ≡ false)
+
 -- What reading the genome file of a run does, if it has one.
 
 module _ {G : Type 0} (device : Source G) where
@@ -116,6 +128,7 @@ module _ {G : Type 0} (device : Source G) where
     pub named : is_some table ≡ is_some before
     pub distinct : IfSome table (λ table. AreDistinct (names_of table))
     pub served : ServesIf device.has_failed before after
+    pub no_failed : NoneFailed read
     -- the file's end was reported
     pub ended : OfBoth (λ before after. device.end_told after ≡ true) before after
 
@@ -130,52 +143,19 @@ module _ {G : Type 0} (device : Source G) where
     pub named : TellsInputIf device (IsOneOf is_genome_kind) FromGenome read after fault
         ⊎ (fault ≡ no_memory)
     pub no_write : fault ≢ write_failed
+    pub no_failed : TellsNoRead (Some fault) → NoneFailed read
 
   abbrev pub ReadsChromosomes : Option G → Result (Option GenomeTable) Fault → Option G → Type 0
   ReadsChromosomes before (Ok table) after = (read : Option InputRead) × KnowsChromosomes before read after table
   ReadsChromosomes before (Err fault) after =
       (read : Option InputRead) × LacksChromosomes before read after (fault_value fault)
 
--- A failed read is reported only if a read of the run failed, whatever its source did before.
-
--- The last read of a run failed, whatever the source did before, or its reads served and handed
--- over more bytes than a text may have.
-abbrev pub IsOwnFailure : {S : Type 0} → (S → Option (List ℕ) → S → Type 0) → S → S → Type 0
-IsOwnFailure IsRead before after = ((bytes : List ℕ) × FailsAfter IsRead before bytes after)
-    ⊎ ((bytes : List ℕ) × ReadsOn IsRead before bytes after × (2 ^ 63 ≤ length bytes))
-
--- The input is there, and its last read failed, or its reads served and handed over more bytes than a text may have.
-abbrev pub IsOwnFailureIf : {S : Type 0} → (S → Option (List ℕ) → S → Type 0) → Option S → Option S
-    → Type 0
-IsOwnFailureIf IsRead (Some before) (Some after) = IsOwnFailure IsRead before after
-IsOwnFailureIf IsRead _ _ = ⊥
-
--- no failed read is reported
-abbrev pub TellsNoRead : Option FaultValue → Type 0
-TellsNoRead fault = (input : Input) (line : ℕ) → fault ≢ Some (read_failed input line)
-
-abbrev pub AnswersNoRead : {T : Type 0} → Result T Fault → Type 0
-AnswersNoRead (Ok done) = ⊤
-AnswersNoRead (Err fault) = TellsNoRead (Some (fault_value fault))
-
--- all reads of a run served, and handed over these bytes
-pub record ReadsServe {S : Type 0} (IsRead : S → Option (List ℕ) → S → Type 0)
-    (before after : S) : Type 0 where
-  pub bytes : List ℕ
-  pub served : ReadsOn IsRead before bytes after
-
--- a failed read is reported of an input only if this holds of it
-pub record TellsOwnReads (OfGenome OfFirst OfSecond : Type 0) (fault : Option FaultValue) : Type 0 where
-  pub genome_file : (line : ℕ) → fault ≡ Some (read_failed Genome line) → OfGenome
-  pub first_input : (line : ℕ) → fault ≡ Some (read_failed First line) → OfFirst
-  pub second_input : (line : ℕ) → fault ≡ Some (read_failed Second line) → OfSecond
-
 -- What a command does with its inputs, by what they hand over; the second may not be there.
 
 module _ {A B : Type 0} (source_a : Source A) (source_b : Source B) (behaviour : Behaviour) where
   -- the inputs were read, and what they make a command write was written:
   -- the report on what they hand over
-  pub record WritesBy (first : A) (second : Option B) (out : Output) (fault : Option FaultValue)
+  pub record RunsBy (first : A) (second : Option B) (out : Output) (fault : Option FaultValue)
       (first_after : A) (second_after : Option B) (grown : Output) : Type 0 where
     pub one : InputRead
     pub one_reads : ReadsSo source_a.is_read first one first_after
@@ -218,18 +198,10 @@ module _ {A B : Type 0} (source_a : Source A) (source_b : Source B) (behaviour :
         ⊎ TellsInputIf source_b behaviour.SecondKinds Second two second_after told)
         ⊎ TellsDevice grown.sink_has_failed grown.sink_last_failed told
 
-  -- a run writes so, and its reads went so
-  pub record RunsBy (first : A) (second : Option B) (out : Output) (fault : Option FaultValue)
-      (first_after : A) (second_after : Option B) (grown : Output) : Type 0 where
-    pub written : WritesBy first second out fault first_after second_after grown
     -- all reads served if no failed read is reported
-    pub reads : TellsNoRead fault → ReadsServe source_a.is_read first first_after
-        × OfBoth (ReadsServe source_b.is_read) second second_after
-    -- and one that is reported is this run's
-    pub own_failure : TellsOwnReads ⊥ (IsOwnFailure source_a.is_read first first_after)
-        (IsOwnFailureIf source_b.is_read second second_after) fault
+    pub no_failed : TellsNoRead fault → (one.failed ≡ false) × NoneFailed two
 
--- a run of one input writes so, and its reads went so
+-- a run of one input
 abbrev pub RunsAlone : {A : Type 0} → Source A → Behaviour → A → Output → Option FaultValue → A → Output
     → Type 0
 RunsAlone device behaviour first out fault new grown =
@@ -327,6 +299,9 @@ module _ {G A B K : Type 0} (source_g : Source G) (source_a : Source A) (source_
         × ServesIf source_b.has_failed second second_after)
         × ((source_a.has_failed first_after ≡ source_a.has_failed first)
         × (sink.has_failed out_after ≡ sink.has_failed out))
+    -- All reads served if no failed read is reported, and no failed write that may have come after it.
+    pub no_failed : fault ≢ Some write_failed → TellsNoRead fault
+        → NoneFailed read.genome × (read.first.failed ≡ false) × NoneFailed read.second
     -- If the genome file's text is at fault, whatever follows what was read of it, no other input was touched,
     -- whatever else failed.
     pub after_genome : (file : Option Handed) → OfBoth MayHold read.genome file → (wrong : FaultValue)
@@ -341,10 +316,10 @@ module _ {G A B K : Type 0} (source_g : Source G) (source_a : Source A) (source_
     pub begun : ((first_after ≡ first) × (second_after ≡ second))
         ⊎ ((table : Option GenomeTable) × KnowsChromosomes source_g genome read.genome genome_after table)
     -- What the fault may be. It is one that a line of an input can have (without
-    -- a genome file none of it, and no unknown chromosome). Or it is a failed read, only if its source
-    -- failed or passed the bound; a failed write, only if the sink failed, and its last call is one
-    -- that failed: nothing was written after it, and nothing flushed; or running out of memory. That a failed read is of this run, whatever its source did before, `run` says beside
-    -- this, by `TellsOwnReads`.
+    -- a genome file none of it, and no unknown chromosome). Or it is a failed read, only if the run's last read of
+    -- that input failed, whatever its source did before, or passed the bound; a failed write, only if the sink
+    -- failed, and its last call is one that failed: nothing was written after it, and nothing flushed; or running
+    -- out of memory.
     pub named : (told : FaultValue) → fault ≡ Some told
         → (TellsInputIf source_g (IsOneOf is_genome_kind) Genome read.genome genome_after told
         ⊎ TellsOther command genome read first_after second_after told)

@@ -11,8 +11,7 @@ ghost use Rattle.bt_bed.specs.calls.GenomeTable.{entries, names_of};
 ghost use Rattle.bt_bed.specs.calls.Orders.{AreDistinct};
 ghost use Rattle.bt_sweep.specs.model.Lines.{subtract_shape};
 ghost use Rattle.bt_tool.specs.model.Behaviour.{behaviour_of, entries_in, of_intersect, of_maskfasta, of_records, order_in_use};
-ghost use Rattle.bt_tool.specs.calls.Inputs.{OfBoth};
-ghost use Rattle.bt_tool.specs.calls.Run.{ReadsChromosomes, Runs, AnswersNoRead, IsOwnFailure, IsOwnFailureIf, ReadsServe, TellsNoRead, TellsOwnReads, RunsAlone, RunsBy};
+ghost use Rattle.bt_tool.specs.calls.Run.{ReadsChromosomes, Runs, RunsAlone, RunsBy};
 ghost use Rattle.bt_tool.specs.calls.Limits.{is_within_limits, IsNamedBy};
 ghost use Rattle.bt_tool.specs.inside.Feed.{Flushes};
 ghost use Rattle.bt_tool.specs.inside.Setup.{chromosomes_in};
@@ -65,13 +64,6 @@ pub fn run<G: Source, A: Source, B: Source, K: Sink>(
     ensures report { Runs G.Source A.Source B.Source K.Sink
         plan.now.command genome first second out (option_map fault_value result.outcome.fault)
         result.genome result.first result.second result.out }
-    ensures reads { option_map fault_value result.outcome.fault ≢ Some write_failed → TellsNoRead (option_map fault_value result.outcome.fault)
-        → OfBoth (ReadsServe G.is_read) genome result.genome × ReadsServe A.is_read first result.first
-        × OfBoth (ReadsServe B.is_read) second result.second }
-    ensures own_failure { TellsOwnReads (IsOwnFailureIf G.is_read genome result.genome)
-        (IsOwnFailure A.is_read first result.first)
-        (IsOwnFailureIf B.is_read second result.second)
-        (option_map fault_value result.outcome.fault) }
 {
     let mut out = Out::new(out);
     let (chromosomes, genome) = read_genome(alloc, genome);
@@ -113,9 +105,6 @@ fn read_genome<G: Source>(
     ensures genome { is_some result.1 ≡ is_some genome }
     ensures named { MatchResult result.0 (λ table. is_some table ≡ is_some genome) (λ _. ⊤) }
     ensures read { ReadsChromosomes G.Source genome result.0 result.1 }
-    ensures reads { AnswersNoRead result.0 → OfBoth (ReadsServe G.is_read) genome result.1 }
-    ensures own_failure { MatchResult result.0 (λ _. ⊤) (λ fault. TellsOwnReads
-        (IsOwnFailureIf G.is_read genome result.1) ⊥ ⊥ (Some (fault_value fault))) }
 {
     let Some(genome) = genome else {
         return (Ok(None), None);

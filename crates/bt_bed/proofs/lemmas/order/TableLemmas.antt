@@ -16,7 +16,7 @@ use Rattle.bt_bed.specs.calls.Reading.{IsLost, LinesPass}
 use Rattle.bt_bed.specs.model.BedLine.{fault_at_line}
 use Rattle.bt_lines.specs.declared.device.Source.{Ghosts as Source}
 use Rattle.bt_lines.proofs.lemmas.reader.block.ReadsLemmas.{comes_before, hands_none, hands_both, memory_failed, none_failed}
-use Rattle.bt_lines.proofs.lemmas.reader.lines.LeftLemmas.{none_came}
+use Rattle.bt_lines.proofs.lemmas.reader.lines.ComingLemmas.{none_came}
 use Rattle.bt_lines.proofs.lemmas.reader.lines.TakingLemmas.{taken_below, not_told}
 use Rattle.bt_lines.proofs.lemmas.reader.lines.TextLemmas.{line_feeds-append}
 use Rattle.bt_lines.specs.calls.Reader.{CutsOff, GivesFault, GivesLine, Hands, IsNear, IsSound, MayStillCome, bytes_taken, fault_kept, input_of, lines_coming, lines_given, source_of, end_told, GivesEnd, FailsToRead}

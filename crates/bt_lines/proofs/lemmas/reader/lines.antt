@@ -1,6 +1,6 @@
 -- Lemmas on reader, lines.
 pub mod BufferedLemmas
-pub mod LeftLemmas
+pub mod ComingLemmas
 pub mod StepLemmas
 pub mod TakingLemmas
 pub mod TextLemmas

@@ -1,7 +1,7 @@
 -- Lemmas on lines that a reader of records takes one after another.
 use Rattle.bt_lines.proofs.Std.{◌≡◌, ℕ, suc, ◌+◌, ◌-◌, ◌^◌, ◌<◌, ◌≤◌, List, [], ◌∷◌, ◌++◌, length, take, drop, Some, None, sym, ap, ◌∙◌, arith, false, false≢true, is_some, append_assoc, append-nil, length-append, take-append-add, drop-drop, true, Ok, Err, refl, inl, inr, ◌⊎◌, add-zero}
 use Rattle.bt_lines.specs.declared.device.Source.{Ghosts as Source}
-use Rattle.bt_lines.proofs.lemmas.reader.lines.LeftLemmas.{made_coming, none_came, none_comes}
+use Rattle.bt_lines.proofs.lemmas.reader.lines.ComingLemmas.{made_coming, none_came, none_comes}
 use Rattle.bt_lines.proofs.lemmas.reader.lines.TakingLemmas.{near_next, not_told, next_below, given_below, prefix_of}
 use Rattle.bt_lines.proofs.lemmas.reader.lines.TextLemmas.{line_feeds-append, lines_are_numbered}
 use Rattle.bt_lines.specs.model.Fault.{FaultValue, read_failed}

@@ -3,7 +3,7 @@ use Rattle.bt_lines.proofs.Std.{suc, append-nil, refl, IsErrAnd, err_from_is_err
 use Rattle.bt_lines.specs.declared.device.Source.{Ghosts as Source}
 use Rattle.bt_lines.proofs.lemmas.reader.block.ReadsLemmas.{hands_both, hands_none, hands_still, some_is}
 use Rattle.bt_lines.proofs.lemmas.reader.lines.BufferedLemmas.{CutsFirst}
-use Rattle.bt_lines.proofs.lemmas.reader.lines.LeftLemmas.{made_coming}
+use Rattle.bt_lines.proofs.lemmas.reader.lines.ComingLemmas.{made_coming}
 use Rattle.bt_lines.proofs.lemmas.reader.lines.TextLemmas.{line_feeds-append}
 use Rattle.bt_lines.specs.calls.Columns.{IsBefore, IsFirstOf, Lacks}
 use Rattle.bt_lines.specs.calls.Line.{line_feeds, line_seen}

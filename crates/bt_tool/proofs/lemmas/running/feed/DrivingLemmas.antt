@@ -1,5 +1,5 @@
 -- Lemmas on driving an engine, from the records that it takes to the report on what its input hands over.
-use Rattle.bt_lines.proofs.Std.{false, ◌≡◌, ℕ, suc, ◌-◌, true, List, [], ◌++◌, take, Option, None, Some, Ok, refl, sym, ap, ◌∙◌, subst, append-nil, append_assoc, arith, inl, inr, ◌⊎◌, ◌≢◌, ⊤, IfSome, map-append, Appends, Consumes, Bool, ◌∷◌, flat_map-append, Appends-nil, false≢true}
+use Rattle.bt_lines.proofs.Std.{false, ◌≡◌, ℕ, suc, ◌-◌, true, List, [], ◌++◌, take, Option, None, Some, Ok, refl, sym, ap, ◌∙◌, subst, append-nil, append_assoc, arith, inl, inr, ◌⊎◌, ◌≢◌, ⊤, map-append, Appends, Bool, ◌∷◌, flat_map-append, Appends-nil}
 use Rattle.bt_lines.specs.declared.device.Source.{Ghosts as Source}
 use Rattle.bt_lines.proofs.lemmas.reader.block.ReadsLemmas.{some_is}
 use Rattle.bt_lines.proofs.lemmas.Writer.{grows_both}
@@ -25,10 +25,10 @@ use Rattle.bt_runs.specs.calls.Engine.{SettledBegins, SettledStays}
 use Rattle.bt_bed.specs.declared.order.ChromOrder.{Ghosts}
 use Rattle.bt_bed.specs.declared.read.records.Records.{Records}
 use Rattle.bt_bed.proofs.lemmas.Definitions.{placed_good, non_empty_good, placed_lines}
-use Rattle.bt_tool.specs.calls.Run.{IsFaultButWrite, IsReported, IsWithin, ReadsNoFurther, TellsDevice, TellsInput, WritesBy, IsOwnFailure, TellsOwnReads, RunsAlone}
+use Rattle.bt_tool.specs.calls.Run.{IsFaultButWrite, IsReported, IsWithin, ReadsNoFurther, TellsDevice, TellsInput, TellsNoRead, RunsBy, RunsAlone}
 use Rattle.bt_tool.specs.model.Behaviour.{of_members, of_records}
 use Rattle.bt_tool.specs.calls.Inputs.{InputRead, MayHold, OfBoth}
-use Rattle.bt_tool.proofs.lemmas.running.members.CursorLemmas.{Came, BeginsAt, at_whole, came_whole, good_whole, handed_to, read, reads_so, says_fault, begins_over, tells_read}
+use Rattle.bt_tool.proofs.lemmas.running.members.CursorLemmas.{Came, BeginsAt, at_whole, came_whole, good_whole, handed_to, not_failed, read, reads_so, says_fault, begins_over, tells_read}
 use Rattle.bt_tool.specs.inside.Feed.{BeginsWith, FeedStopCause, WhateverComes, CutsLines, PutsLines, FeedsAll, FeedsUpTo, TookButBlock, IsReadFor, member_items, LineRefused, sam_reader, IsFresh, IsKeptBelow, PassesMembers}
 use Rattle.bt_bed.specs.model.Meeting.{Report}
 use Rattle.bt_tool.specs.model.Written.{members_report, members_settle, report_by, Written, IsOneOf, alignment_lines, alignments_written, merge_written, pooled_written, coverage_written}
@@ -42,7 +42,7 @@ use Rattle.bt_seq.specs.model.Alignment.{Alignment, alignment_of, sam_format, is
 use Rattle.bt_seq.specs.model.BedLines.{bed_lines}
 use Rattle.bt_seq.specs.calls.Sam.{Converting}
 use Rattle.bt_seq.proofs.lemmas.Sam.{kinds_of_lines, wrong_kinds}
-use Rattle.bt_tool.proofs.lemmas.running.whole.OwnFailureLemmas.{feeds_own}
+use Rattle.bt_tool.proofs.lemmas.running.whole.OwnFailureLemmas.{none_tells}
 use Rattle.bt_tool.proofs.lemmas.running.members.MemberLemmas.{IsStopped, came, passes_none, passes_some, read_line}
 use Rattle.bt_bed.proofs.lemmas.read.good.ReadingLemmas.{Going as Steps, going_end, going_start as steps_start, going_unread, going_wrong, good_at_first}
 use Rattle.bt_bed.specs.model.Genome.{Entry}
@@ -172,7 +172,7 @@ module _ {S A State : Type 0} {written : Written A} {Taken : List A → Type 0} 
       elim taking.cause [
         | inl fails ↦ elim fails [
           | inl wrong ↦ inl (inl (inl (record { line = wrong.line; kind = wrong.kind; of_kind = wrong.of_kind; is = wrong.is ∙ ap (λ i. fault_at_line i wrong.line wrong.kind) driven.starts.input_is })))
-          | inr unread ↦ inl (inl (inr (tells_read device old driven.starts new driven.ended hands unread)))
+          | inr unread ↦ inl (inl (inr (tells_read device old driven.starts new driven.ended hands unread driven.kept)))
         ]
         | inr lacks ↦ inr (inr lacks.is)
       ]
@@ -182,10 +182,10 @@ module _ {S A State : Type 0} {written : Written A} {Taken : List A → Type 0} 
     (driven : IsDriven written Taken format old first new last) (kinds : Kind → Type 0) (Sorted : List A → Type 0) (out : Output) where
   -- a command of one input wrote so
   abbrev pub WritesOne : Option FaultValue → Output → Type 0
-  WritesOne fault grown = WritesBy device device (of_members kinds written format) first None out fault last None grown
+  WritesOne fault grown = RunsBy device device (of_members kinds written format) first None out fault last None grown
 
-  pub drives_fault : {fault : FaultValue} {grown : Output} → FeedsUpTo written.settled kinds Sorted device old out fault new grown → WritesOne (Some fault) grown
-  drives_fault {fault} {grown} fed =
+  pub drives_fault : {fault : FaultValue} {grown : Output} → (TellsNoRead (Some fault) → TellsNoRead (fault_kept new.below)) → FeedsUpTo written.settled kinds Sorted device old out fault new grown → WritesOne (Some fault) grown
+  drives_fault {fault} {grown} none fed =
       let hands = fed.took.bytes.1 in
       record {
         one = read device old driven.starts new driven.ended hands;
@@ -207,6 +207,7 @@ module _ {S A State : Type 0} {written : Written A} {Taken : List A → Type 0} 
             (IsFaultButWrite (Some fault)) (λ stops. fed.exact (λ is. stops.1 (ap Some is))));
         named = λ told e. subst (λ t. (TellsInput device kinds First (read device old driven.starts new driven.ended hands) last t ⊎ ⊥) ⊎ TellsDevice grown.sink_has_failed grown.sink_last_failed t) (some_is fault told e)
             (named_by device driven kinds Sorted out hands fed.cause);
+        no_failed = λ never. (not_failed device old driven.starts new driven.ended hands (none never), tt);
       }
 
   module _ {Stands : List A → Type 0} {grown : Output} (fed : FeedsAll written.settled kinds Sorted device Stands old out new grown) {finished : Output} (goes : GoesOn grown finished) where
@@ -253,6 +254,7 @@ module _ {S A State : Type 0} {written : Written A} {Taken : List A → Type 0} 
           served = λ e. ((ap device.has_failed (sym driven.ended) ∙ fed.served ∙ ap device.has_failed driven.starts.source, tt), works ∙ fed.works.sink_served);
           near = (suc fed.took.read.to.count, near_end None (λ stops. stops.0 refl));
           named = λ told e. cc;
+          no_failed = λ never. (not_failed device old driven.starts new driven.ended all_hands (none_tells (fault_kept new.below) fed.clear), tt);
         }
 
     pub drives_cut : {fault : FaultValue} → fault ≡ write_failed → (rest : List ℕ) → written.whole (member_items fed.past) ≡ written.settled (member_items fed.past) ++ rest
@@ -275,6 +277,7 @@ module _ {S A State : Type 0} {written : Written A} {Taken : List A → Type 0} 
       served = λ e. cc;
       near = (suc fed.took.read.to.count, near_end (Some fault) (λ stops. stops.1 (ap Some is)));
       named = λ told e. inr (inl (sym (some_is fault told e) ∙ is, sink.0, sink.1));
+      no_failed = λ never. (not_failed device old driven.starts new driven.ended all_hands (none_tells (fault_kept new.below) fed.clear), tt);
     }
 
 -- Lemmas on writing the alignments of an input, line by line.
@@ -406,7 +409,7 @@ module _ {S : Type 0} (split cigar : Bool) {device : Source S} {first : S} {read
 
   module _ {converting : Converting} (same : converting ≡ record { split = split; with_cigar = cigar; fault = None }) (out : Output) (new : MemberReader S Alignment ⊤) {last : S} (ended : source_of new.below ≡ last) (grown : Output) where
     abbrev Writes : Option FaultValue → Type 0
-    Writes fault = WritesBy device device (of_members (IsOneOf is_sam_kind) (alignments_written split cigar) sam_format) first None out fault last None grown
+    Writes fault = RunsBy device device (of_members (IsOneOf is_sam_kind) (alignments_written split cigar) sam_format) first None out fault last None grown
 
     module _ (kept : IsKeptBelow new new.below) where
       driven : IsDriven (alignments_written split cigar) (λ past. ⊤) sam_format (sam_reader reader) first new last
@@ -419,14 +422,9 @@ module _ {S : Type 0} (split cigar : Bool) {device : Source S} {first : S} {read
           drives_all device driven (IsOneOf is_sam_kind) (λ past. ⊤) out is (goes_same grown) [] (sym (append-nil _)) (Appends-nil grown.put) refl
 
       -- or it was read up to a fault
-      pub writes_up_to : {fault : FaultValue} → FeedsUpTo (alignment_lines converting.split converting.with_cigar) (IsOneOf is_sam_kind) (λ past. ⊤) device (sam_reader reader) out fault new grown → Writes (Some fault)
-      writes_up_to {fault} fed =
-          drives_fault device driven (IsOneOf is_sam_kind) (λ past. ⊤) out (subst (λ (m : Converting). FeedsUpTo (alignment_lines m.split m.with_cigar) (IsOneOf is_sam_kind) (λ past. ⊤) device (sam_reader reader) out fault new grown) same fed)
-
-    -- a failed read that is reported is of a read that failed then
-    pub own_up_to : IsKeptBelow new new.below → {fault : FaultValue} → FeedsUpTo (alignment_lines converting.split converting.with_cigar) (IsOneOf is_sam_kind) (λ past. ⊤) device (sam_reader reader) out fault new grown
-        → TellsOwnReads ⊥ (IsOwnFailure device.is_read first last) ⊥ (Some fault)
-    own_up_to kept {fault} fed = feeds_own device starts_reader new ended kept (IsOneOf is_sam_kind) (λ kind. false≢true kind) (λ past. ⊤) fed
+      pub writes_up_to : {fault : FaultValue} → (TellsNoRead (Some fault) → TellsNoRead (fault_kept new.below)) → FeedsUpTo (alignment_lines converting.split converting.with_cigar) (IsOneOf is_sam_kind) (λ past. ⊤) device (sam_reader reader) out fault new grown → Writes (Some fault)
+      writes_up_to {fault} none fed =
+          drives_fault device driven (IsOneOf is_sam_kind) (λ past. ⊤) out none (subst (λ (m : Converting). FeedsUpTo (alignment_lines m.split m.with_cigar) (IsOneOf is_sam_kind) (λ past. ⊤) device (sam_reader reader) out fault new grown) same fed)
 
 -- Lemmas on the lines that an engine writes, from its intervals, and on the report that they make.
 
@@ -490,14 +488,11 @@ module _ {order : Order} (total : IsTotal order) where
       → (first : A) (out : Output) (fault : Option FaultValue) (new : A) (grown : Output)
       → RunsAlone device (of_records order (merge_as_they_come merge)) first out fault new grown
       → RunsAlone device (of_records order (merge_written order d strand)) first out fault new grown
-  merge_runs device d strand merge begun first out fault new grown runs = record {
-    written = alone_writes device device (of_records order (merge_written order d strand))
-        (λ one two. ap (λ m. members_report (merge_as_they_come m) (bed_format (sorting_of order)) one) begun ∙ (grind (arith, report_same, placed_good)))
-        (λ two lines. ap (λ m. members_settle (merge_as_they_come m) (bed_format (sorting_of order)) lines) begun ∙ (grind (arith, settled_same, placed_lines)))
-        (λ lines. refl) None (λ t read tells. tells) runs.written;
-    reads = runs.reads;
-    own_failure = runs.own_failure;
-  }
+  merge_runs device d strand merge begun first out fault new grown runs =
+      alone_writes device device (of_records order (merge_written order d strand))
+      (λ one two. ap (λ m. members_report (merge_as_they_come m) (bed_format (sorting_of order)) one) begun ∙ (grind (arith, report_same, placed_good)))
+      (λ two lines. ap (λ m. members_settle (merge_as_they_come m) (bed_format (sorting_of order)) lines) begun ∙ (grind (arith, settled_same, placed_lines)))
+      (λ lines. refl) None (λ t read tells. tells) runs
 
 module _ (entries : List Entry) (zeros : Bool) (strand : Option Strand) where
   -- a coverage that has taken no record has settled nothing

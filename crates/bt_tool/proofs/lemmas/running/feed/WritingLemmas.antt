@@ -12,11 +12,10 @@ use Rattle.bt_tool.specs.calls.Inputs.{CameOf, HandsUpTo, InputRead, MayHold, Of
 use Rattle.bt_lines.specs.calls.Device.{begun}
 use Rattle.bt_tool.proofs.lemmas.running.members.CursorLemmas.{IsWhole}
 use Rattle.bt_bed.specs.model.Meeting.{Report}
-use Rattle.bt_tool.specs.calls.Run.{IsFaultButWrite, IsOfInput, IsPutTo, IsReported, IsWithin, ReadsNoFurther, TellsInput, TellsInputIf, WritesBy}
+use Rattle.bt_tool.specs.calls.Run.{NoneFailed, IsFaultButWrite, IsOfInput, IsPutTo, IsReported, IsWithin, ReadsNoFurther, TellsInput, TellsInputIf, RunsBy}
 use Rattle.bt_tool.specs.declared.planning.plan_type.Command.{Command}
 use Rattle.bt_lines.specs.calls.Reader.{CutsOff, Hands, bytes_taken, end_told}
 use Rattle.bt_lines.specs.declared.reader.line_reader.LineReader.{LineReader}
-use Rattle.bt_lines.proofs.lemmas.reader.block.ReadsLemmas.{hands_both}
 use Rattle.bt_lines.proofs.lemmas.reader.lines.TextLemmas.{line_feeds-append}
 use Rattle.bt_bed.specs.model.Good.{Good, Member}
 use Rattle.bt_bed.specs.calls.Reading.{IsBeyond, IsFaultBeyond, with_members}
@@ -60,6 +59,11 @@ none_two : {S : Type 0} (IsRead : S → Option (List ℕ) → S → Type 0) (two
 none_two IsRead None reads = refl
 none_two IsRead (Some read) reads = absurd reads
 
+pub none_failed : {S : Type 0} (source : Option S) → NoneFailed (none_read source)
+unfolding none_read
+none_failed None = tt
+none_failed (Some source) = refl
+
 pub none_up_to : {S : Type 0} (most : ℕ) (source : Option S) → HandsUpTo most (none_read source)
 unfolding none_read
 none_up_to most None = tt
@@ -70,14 +74,14 @@ module _ {A B : Type 0} (source_a : Source A) (source_b : Source B) where
   module _ {mine : Behaviour} (yours : Behaviour) (same : (one : Handed) (two : Option Handed) → mine.report one None ≡ yours.report one two) (same_settle : (two : Option Handed) (lines : List TextLine) → mine.settles None lines ≡ yours.settles two lines)
       (same_faults : (lines : List TextLine) → mine.faults lines ≡ yours.faults lines)
       {first : A} (second : Option B) {out : Output} {fault : Option FaultValue} {first_after : A} {grown : Output}
-      (same_kinds : (t : FaultValue) (read : InputRead) → TellsInput source_a mine.FirstKinds First read first_after t → TellsInput source_a yours.FirstKinds First read first_after t) (w : WritesBy source_a source_a mine first None out fault first_after None grown) where
+      (same_kinds : (t : FaultValue) (read : InputRead) → TellsInput source_a mine.FirstKinds First read first_after t → TellsInput source_a yours.FirstKinds First read first_after t) (w : RunsBy source_a source_a mine first None out fault first_after None grown) where
     alone : w.two ≡ None
     alone = none_two source_a.is_read w.two w.two_reads
 
     none_with : (P : Option InputRead → Option Handed → Type 0) → P None None → P w.two None
     none_with P so = subst (λ two. P two None) (sym alone) so
 
-    pub alone_writes : WritesBy source_a source_b yours first second out fault first_after second grown
+    pub alone_writes : RunsBy source_a source_b yours first second out fault first_after second grown
     alone_writes = record {
       one = w.one;
       one_reads = w.one_reads;
@@ -103,6 +107,7 @@ module _ {A B : Type 0} (source_a : Source A) (source_b : Source B) where
         | inl tells ↦ elim tells [ inl tells ↦ inl (inl (same_kinds t w.one tells)) | inr none ↦ absurd (subst (λ two. TellsInputIf source_a mine.SecondKinds Second two None t) alone none) ]
         | inr tells ↦ inr tells
       ];
+      no_failed = λ never. ((w.no_failed never).0, none_failed second);
     }
 
   -- what a command does that doesn't look at a second input
@@ -110,11 +115,11 @@ module _ {A B : Type 0} (source_a : Source A) (source_b : Source B) where
       → ((one : Handed) (two : Option Handed) → (behaviour_of command chromosomes).report one None ≡ (behaviour_of command chromosomes).report one two)
       → ((two : Option Handed) (lines : List TextLine) → (behaviour_of command chromosomes).settles None lines ≡ (behaviour_of command chromosomes).settles two lines)
       → {is : Command} → is ≡ command → {first : A} {second : Option B} {out : Output} {fault : Option FaultValue} {first_after : A} {grown : Output}
-      → WritesBy source_a source_a (behaviour_of command chromosomes) first None out fault first_after None grown
-      → WritesBy source_a source_b (behaviour_of is chromosomes) first second out fault first_after second grown
+      → RunsBy source_a source_a (behaviour_of command chromosomes) first None out fault first_after None grown
+      → RunsBy source_a source_b (behaviour_of is chromosomes) first second out fault first_after second grown
   behaves_alone {command} chromosomes same same_settle e {first} {second} {out} {fault} {first_after} {grown} w =
       let behaviour = behaviour_of command chromosomes in
-      subst (λ (command : Command). WritesBy source_a source_b (behaviour_of command chromosomes) first second out fault first_after second grown) (sym e)
+      subst (λ (command : Command). RunsBy source_a source_b (behaviour_of command chromosomes) first second out fault first_after second grown) (sym e)
       (alone_writes behaviour same same_settle (λ lines. refl) second (λ t read tells. tells) w)
 
 -- Lemmas that tell faults apart.

@@ -1,5 +1,5 @@
 -- Lemmas on a reader of records in blocks as one of members, and on a reader of lines at its end.
-use Rattle.bt_lines.proofs.Std.{◌≡◌, ℕ, Bool, true, false, List, [], take, None, Ok, Err, refl, ap, ◌∙◌, subst, suc, ◌+◌, ◌-◌, ◌≤◌, ◌∷◌, ◌++◌, length, drop, Option, Some, sym, append_assoc, append-nil, length-append, arith, All, drop-append_seam, All-append, inl}
+use Rattle.bt_lines.proofs.Std.{◌≡◌, ℕ, Bool, true, false, List, [], take, None, Ok, Err, refl, ap, ◌∙◌, subst, suc, ◌+◌, ◌-◌, ◌≤◌, ◌∷◌, ◌++◌, length, drop, Some, sym, append_assoc, append-nil, length-append, arith, All, drop-append_seam, All-append, inl}
 use Rattle.bt_lines.specs.declared.device.Source.{Ghosts as Source}
 use Rattle.bt_lines.proofs.lemmas.reader.lines.BufferedLemmas.{none_left}
 use Rattle.bt_lines.specs.calls.Reader.{buffered_bytes, buffered_in, fault_kept as line_fault, has_ended, is_open, lines_given, GivesEnd, GivesFault, IsKept, MakesLine, MayStillCome, TakenLines, TakesLines, held, input_of, lines_coming}
@@ -20,7 +20,7 @@ use Rattle.bt_tool.specs.inside.Feed.{HasTaken, IsReadFor, PassesMembers, StopsA
 use Rattle.bt_tool.proofs.lemmas.running.members.MemberLemmas.{IsFilled, IsOver, IsStopped, bytes_still, come_then, lines_then, members_low}
 use Rattle.bt_tool.proofs.lemmas.running.members.PassedLemmas.{consumed_of}
 use Rattle.bt_lines.proofs.lemmas.reader.block.ReadsLemmas.{hands_both}
-use Rattle.bt_lines.proofs.lemmas.reader.lines.LeftLemmas.{made_coming}
+use Rattle.bt_lines.proofs.lemmas.reader.lines.ComingLemmas.{made_coming}
 use Rattle.bt_lines.proofs.lemmas.reader.lines.TakingLemmas.{sound_near, near_next, prefix_of}
 use Rattle.bt_lines.specs.model.Fault.{FaultValue}
 use Rattle.bt_lines.specs.model.Lines.{TextLine}

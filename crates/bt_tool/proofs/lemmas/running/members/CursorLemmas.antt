@@ -14,7 +14,7 @@ use Rattle.bt_lines.specs.declared.reader.line_reader.LineReader.{LineReader}
 use Rattle.bt_lines.specs.declared.device.Source.{Ghosts as Source}
 use Rattle.bt_lines.specs.model.Fault.{FaultValue, read_failed}
 use Rattle.bt_lines.specs.declared.fault.Input.{Input}
-use Rattle.bt_tool.specs.calls.Run.{TellsRead}
+use Rattle.bt_tool.specs.calls.Run.{TellsNoRead, TellsRead}
 use Rattle.bt_tool.specs.calls.Inputs.{CameOf, InputRead, MayHold, ReadsAs, ReadsSo, handed_by}
 use Rattle.bt_lines.specs.calls.Device.{ReadsOn}
 use Rattle.bt_lines.specs.inside.ReadBuffer.{fault_at, told_at}
@@ -411,10 +411,26 @@ module _ {S A State : Type 0} (device : Source S) {format : Format A State} {inp
   handed_to count rest follows near =
       handed_near (suc count) (bytes ++ rest) bytes rest refl (subst (λ lines. bytes_in (drop (suc count) lines) ≤ length rest + block_size) (begins.lines (bytes ++ rest)) (near rest follows))
 
+  -- if no failed read is kept, none failed
+  pub not_failed : TellsNoRead (fault_kept new.below) → read.failed ≡ false
+  not_failed never = false_by of_reader.failed of_reader.kept
+    where
+      false_by : (failed : Bool) → (failed ≡ true → IsReadFailed (fault_kept new.below)) → failed ≡ false
+      false_by true kept = let is = kept refl in absurd (never is.0 is.1 is.2)
+      false_by false kept = refl
+
   -- a failed read that is told
-  pub tells_read : {past : List (Member A)} {fault : FaultValue} → IsUnreadBehind device old bytes past fault new → TellsRead device input read last fault
-  tells_read {fault = fault} unread = record {
+  pub tells_read : {past : List (Member A)} {fault : FaultValue} → IsUnreadBehind device old bytes past fault new → IsKeptBelow new new.below → TellsRead device input read last fault
+  tells_read {fault = fault} unread kept = record {
     line = suc (lines_given new.below);
     is = unread.is ∙ ap (λ i. read_failed i (suc (lines_given new.below))) begins.input_is;
-    cause = elim unread.cause [ inl failed ↦ inl (ap device.has_failed (sym ended) ∙ failed) | inr past ↦ inr (omega (arith, counted, past)) ];
+    cause = cause_by of_reader.failed refl unread.cause;
   }
+    where
+      cut : IsReadFailed (fault_kept new.below)
+      cut = (input_of old.below, suc (lines_given new.below), kept (input_of old.below) (suc (lines_given new.below)) (unread.kept ∙ ap Some unread.is))
+
+      cause_by : (failed : Bool) → of_reader.failed ≡ failed → (device.has_failed (source_of new.below) ≡ true) ⊎ (2 ^ 63 ≤ bytes_taken new.below) → ((of_reader.failed ≡ true) × (device.has_failed last ≡ true)) ⊎ (2 ^ 63 ≤ length bytes)
+      cause_by true e (inl failed) = inl (e, ap device.has_failed (sym ended) ∙ failed)
+      cause_by true e (inr past) = inr (omega (arith, counted, past))
+      cause_by false e cause = inr (omega (arith, counted, of_reader.past e cut))

@@ -10,7 +10,7 @@ use Rattle.bt_bed.specs.model.Sorted.{Locus, locus_of, sorting_of}
 use Rattle.bt_bed.specs.calls.Orders.{IsUpTo, IsTotal}
 use Rattle.bt_bed.specs.model.Order.{Order}
 use Rattle.bt_bed.specs.calls.Reading.{AreSaid, BeginsComing, MemberReader, Takes, coming, first_from, members_from, with_members}
-use Rattle.bt_bed.specs.calls.Records.{FillsRecords, TakesRecords, below, buffered_in, view_of}
+use Rattle.bt_bed.specs.calls.Records.{FillsRecords, TakesRecords, buffered_in, view_of}
 use Rattle.bt_bed.specs.declared.order.ChromOrder.{Ghosts}
 use Rattle.bt_bed.specs.declared.read.records.Records.{Records}
 use Rattle.bt_bed.proofs.lemmas.read.batch.RecordsLemmas.{said_behind}

@@ -1,5 +1,5 @@
 -- Lemmas on the members that were seen and on the lines that were put, when a run stops.
-use Rattle.bt_lines.proofs.Std.{arith, ◌≡◌, ℕ, List, [], ◌++◌, Option, sym, ap, ◌∙◌, append-nil, append_assoc, map-append}
+use Rattle.bt_lines.proofs.Std.{arith, ◌≡◌, ℕ, List, [], ◌++◌, sym, ap, ◌∙◌, append-nil, append_assoc, map-append}
 use Rattle.bt_lines.specs.model.Fault.{FaultValue}
 use Rattle.bt_lines.specs.calls.Output.{Output, FailsToAdd}
 use Rattle.bt_bed.specs.model.Good.{Good, Member, items_in}

@@ -5,19 +5,18 @@ use Rattle.bt_lines.specs.calls.Faults.{no_memory, write_failed}
 use Rattle.bt_bed.specs.model.Good.{Good, items_in, or_else, Format, Member, good, good_handed}
 use Rattle.bt_bed.specs.model.Meeting.{Report, Rule, join_report, written}
 use Rattle.bt_tool.specs.inside.Pair.{JoinDef, MayCome, Pair, Serves, PairEnds, FirstStops, InputsEnd, LimitStops, RestStops, SecondFails, SecondStops, Why}
-use Rattle.bt_lines.specs.declared.device.Source.{Ghosts as Source}
 use Rattle.bt_lines.proofs.lemmas.reader.block.ReadsLemmas.{some_is}
-use Rattle.bt_lines.specs.model.Lines.{Handed, whole_text, TextLine, text_lines}
+use Rattle.bt_lines.specs.model.Lines.{Handed, TextLine, text_lines}
 use Rattle.bt_lines.specs.calls.Output.{Output, block_size}
-use Rattle.bt_lines.specs.calls.Reader.{MayStillCome, input_of, lines_given, source_of}
+use Rattle.bt_lines.specs.calls.Reader.{MayStillCome, fault_kept as line_fault, input_of, lines_given, source_of}
 use Rattle.bt_lines.specs.declared.fault.Input.TheVariants.{First, Second}
 use Rattle.bt_bed.specs.calls.Reading.{IsBeyond, MemberReader, coming}
 use Rattle.bt_bed.proofs.lemmas.Definitions.{all_stop, met_fault_stop, met_output, written_past, written_stop}
 use Rattle.bt_tool.specs.model.Behaviour.{Behaviour, or_empty}
 use Rattle.bt_tool.specs.calls.Inputs.{CameOf, InputRead, MayHold, OfBoth}
 use Rattle.bt_bed.specs.model.BedLine.{fault_at_line}
-use Rattle.bt_tool.specs.calls.Run.{WritesBy, IsFaultButWrite, IsReported, IsWithin, ReadsNoFurther, TellsDevice, TellsInput}
-use Rattle.bt_tool.proofs.lemmas.running.members.CursorLemmas.{Came, BeginsAt, at_whole, came_cut, came_whole, read, reads_so, says_fault, tells_read}
+use Rattle.bt_tool.specs.calls.Run.{RunsBy, IsFaultButWrite, IsReported, IsWithin, ReadsNoFurther, TellsDevice, TellsInput, TellsNoRead}
+use Rattle.bt_tool.proofs.lemmas.running.members.CursorLemmas.{Came, BeginsAt, at_whole, came_cut, came_whole, not_failed, read, reads_so, says_fault, tells_read}
 use Rattle.bt_tool.specs.inside.Feed.{CutsLines, IsKeptBelow, PutsLines, WhateverComes, member_items, HasFaultBehind}
 use Rattle.bt_tool.proofs.lemmas.running.feed.WritingLemmas.{is_whole}
 use Rattle.bt_tool.proofs.lemmas.running.members.SeenLemmas.{PutsFront, puts_front}
@@ -352,11 +351,11 @@ module _ {A B X Y U V : Type 0} {join : JoinDef X Y} {pair : Pair A B X Y U V} {
 
   first_named : (past : List (Member X)) (other : FaultValue) → HasFaultBehind pair.source_a pair.first join.first_kinds w.first_bytes.0 past other first → TellsInput pair.source_a join.first_kinds First one_read one_after other
   first_named past other (inl wrong) = inl (record { line = wrong.line; kind = wrong.kind; of_kind = wrong.of_kind; is = wrong.is ∙ ap (λ i. fault_at_line i wrong.line wrong.kind) begins.input_is })
-  first_named past other (inr unread) = inr (tells_read pair.source_a pair.first begins first ended w.first_bytes.1 unread)
+  first_named past other (inr unread) = inr (tells_read pair.source_a pair.first begins first ended w.first_bytes.1 unread kept)
 
   second_cause : (past : List (Member Y)) (other : FaultValue) → HasFaultBehind pair.source_b pair.second join.second_kinds w.second_bytes.0 past other second → TellsInput pair.source_b join.second_kinds Second two_read two_after other
   second_cause past other (inl wrong) = inl (record { line = wrong.line; kind = wrong.kind; of_kind = wrong.of_kind; is = wrong.is ∙ ap (λ i. fault_at_line i wrong.line wrong.kind) begins_second.input_is })
-  second_cause past other (inr unread) = inr (tells_read pair.source_b pair.second begins_second second ended_second w.second_bytes.1 unread)
+  second_cause past other (inr unread) = inr (tells_read pair.source_b pair.second begins_second second ended_second w.second_bytes.1 unread kept_second)
 
   second_named : (past : List (Member Y)) (other : FaultValue) → SecondFails join pair out w.first_bytes.0 w.second_bytes.0 w.wrote.ended past second other → TellsInput pair.source_b join.second_kinds Second two_read two_after other
   second_named past other fails = second_cause past other fails.cause
@@ -417,8 +416,8 @@ module _ {A B X Y U V : Type 0} {join : JoinDef X Y} {pair : Pair A B X Y U V} {
     }
 
     -- the report on how the inputs meet, by how far they were read
-    pub writes_both : NearBoth → WritesBy pair.source_a pair.source_b behaviour one_before (Some two_before) out fault one_after (Some two_after) grown
-    writes_both near = record {
+    pub writes_both : NearBoth → (TellsNoRead fault → TellsNoRead (line_fault first.below) × TellsNoRead (line_fault second.below)) → RunsBy pair.source_a pair.source_b behaviour one_before (Some two_before) out fault one_after (Some two_after) grown
+    writes_both near none = record {
       one = one_read;
       one_reads = reads_so pair.source_a pair.first begins first ended w.first_bytes.1;
       two = Some two_read;
@@ -437,4 +436,8 @@ module _ {A B X Y U V : Type 0} {join : JoinDef X Y} {pair : Pair A B X Y U V} {
       served = λ e. grind arith;
       near = (near.0, λ one two before taken holds others put took. near.1 one (or_empty two) before taken holds (both_if MayHold two_read two others) put took);
       named = λ told e. named_by told e w.why;
+      no_failed = λ never. (
+        not_failed pair.source_a pair.first begins first ended w.first_bytes.1 (none never).0,
+        not_failed pair.source_b pair.second begins_second second ended_second w.second_bytes.1 (none never).1,
+      );
     }

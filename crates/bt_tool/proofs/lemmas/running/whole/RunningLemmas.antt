@@ -1,5 +1,5 @@
 -- Lemmas on a run, from its devices to the report on what its inputs hand over.
-use Rattle.bt_lines.proofs.Std.{common_steps, ◌≡◌, ℕ, ◌+◌, Bool, true, false, List, [], ◌++◌, length, take, Option, None, Some, Ok, Err, refl, sym, ap, ◌∙◌, subst, append-nil, append_assoc, arith, inl, inr, ◌⊎◌, ◌≢◌, Result, is_some, option_map, append_cancel_left, Appends-nil}
+use Rattle.bt_lines.proofs.Std.{common_steps, ◌≡◌, ℕ, Bool, true, false, List, [], ◌++◌, length, Option, None, Some, Ok, Err, refl, sym, ap, ◌∙◌, subst, append-nil, append_assoc, arith, inl, inr, ◌⊎◌, ◌≢◌, Result, is_some, option_map, append_cancel_left, Appends-nil}
 use Rattle.bt_lines.specs.declared.device.Sink.{Ghosts as Sink}
 use Rattle.bt_lines.specs.declared.device.Source.{Ghosts as Source}
 use Rattle.bt_lines.proofs.lemmas.reader.block.ReadsLemmas.{some_is}
@@ -7,9 +7,9 @@ use Rattle.bt_tool.proofs.lemmas.running.feed.FeedLemmas.{took_more_than}
 use Rattle.bt_lines.proofs.lemmas.Writer.{grows_both}
 use Rattle.bt_lines.specs.model.Fault.{FaultValue}
 use Rattle.bt_lines.specs.calls.Faults.{write_failed, no_memory}
-use Rattle.bt_lines.specs.model.Lines.{Handed, text_lines}
+use Rattle.bt_lines.specs.model.Lines.{Handed}
 use Rattle.bt_lines.specs.calls.Names.{fault_value}
-use Rattle.bt_lines.specs.calls.Output.{Output, IsPrefixOf, Grows, block_size}
+use Rattle.bt_lines.specs.calls.Output.{Output, IsPrefixOf, Grows}
 use Rattle.bt_lines.specs.declared.fault.Fault.{Fault}
 use Rattle.bt_lines.specs.declared.fault.Input.{Input}
 use Rattle.bt_lines.specs.declared.fault.Input.TheVariants.{First, Second, Genome as FromGenome}
@@ -22,7 +22,7 @@ use Rattle.bt_runs.specs.model.Depth.{settled_depths}
 use Rattle.bt_runs.specs.model.Gaps.{settled_gaps}
 use Rattle.bt_bed.specs.model.Meeting.{Report}
 use Rattle.bt_tool.specs.model.Written.{IsOneOf}
-use Rattle.bt_tool.specs.calls.Run.{InputsRead, KnowsChromosomes, LacksChromosomes, ReadsChromosomes, IsFaultButWrite, IsOfInput, IsPutTo, IsWithin, ReadsNoFurther, TellsDevice, TellsInput, TellsInputIf, WritesBy, Runs, TellsOther, ShowsReport}
+use Rattle.bt_tool.specs.calls.Run.{InputsRead, KnowsChromosomes, LacksChromosomes, ReadsChromosomes, IsFaultButWrite, IsOfInput, IsPutTo, ReadsNoFurther, TellsDevice, TellsInput, TellsInputIf, TellsNoRead, RunsBy, Runs, TellsOther, ShowsReport}
 use Rattle.bt_tool.specs.inside.Feed.{Flushes, FlushesAll, FlushFails, StaysFailed}
 use Rattle.bt_tool.specs.model.Report.{Inputs, behaviour_on, chromosomes_of, report_of, report_on, answer_of, report, texts_of}
 use Rattle.bt_tool.specs.model.Behaviour.{behaviour_of}
@@ -30,8 +30,8 @@ use Rattle.bt_tool.specs.calls.Inputs.{InputRead}
 use Rattle.bt_lines.specs.calls.Device.{ReadsOn, begun as begun_reads}
 use Rattle.bt_tool.specs.calls.CommandLine.{ReportsAnswer}
 use Rattle.bt_tool.specs.declared.planning.plan_type.Command.{Command}
-use Rattle.bt_tool.proofs.lemmas.running.whole.OwnFailureLemmas.{WritesOutput}
-use Rattle.bt_tool.proofs.lemmas.running.feed.WritingLemmas.{near_as, none_read, none_up_to, reads_none}
+use Rattle.bt_tool.proofs.lemmas.running.whole.OwnFailureLemmas.{WritesOutput, flushed_no_read}
+use Rattle.bt_tool.proofs.lemmas.running.feed.WritingLemmas.{near_as, none_failed, none_read, none_up_to, reads_none}
 use Rattle.bt_tool.specs.model.Options.{options}
 use Rattle.bt_tool.specs.model.Table.{Word}
 use Rattle.bt_tool.specs.declared.options.usage.Usage.{Usage}
@@ -158,7 +158,7 @@ module _ {G A B K : Type 0} (source_g : Source G) (source_a : Source A) (source_
   OthersTell read t = TellsOther source_g source_a source_b sink command genome read first_after second_after t
 
   -- the chromosomes were read, and the output written by them
-  module _ (table : Option Genome) {genome_read : Option InputRead} (knows : KnowsChromosomes source_g genome genome_read genome_after table) (writes : WritesBy source_a source_b (behaviour_of command (option_map entries table)) first second begun fault first_after second_after mid) where
+  module _ (table : Option Genome) {genome_read : Option InputRead} (knows : KnowsChromosomes source_g genome genome_read genome_after table) (writes : RunsBy source_a source_b (behaviour_of command (option_map entries table)) first second begun fault first_after second_after mid) where
     abbrev chromosomes : Option (List Entry)
     chromosomes = option_map entries table
 
@@ -217,6 +217,7 @@ module _ {G A B K : Type 0} (source_g : Source G) (source_a : Source A) (source_
           let was = served_by begun mid new fault answer flushes.ends none in
           let devices = writes.served was.0 in
           ((knows.served, devices.0.1), (devices.0.0, writes_over.failed_after ∙ was.1 ∙ devices.1 ∙ writes_over.served));
+      no_failed = λ no_write never. (let none = flushed_no_read mid new fault answer flushes no_write never in (knows.no_failed, (writes.no_failed none).0, (writes.no_failed none).1));
       after_genome = λ file holds wrong e. absurd (other_chromosomes (chromosomes_of file) chromosomes wrong (knows.told file holds) e);
       untouched = λ t e place at is.
           let there = lies t.place place at is in
@@ -274,6 +275,7 @@ module _ {G A B K : Type 0} (source_g : Source G) (source_a : Source A) (source_
           (λ other. exact_by begun mid new fault answer (before ++ []) (λ was. begun_put before known) other flushes.ends)));
       served = λ none.
           absurd (let apart : None ≡ Some wrong = sym (served_by begun mid new fault answer flushes.ends none).0 ∙ stops.0 in cc);
+      no_failed = λ no_write never. (lacks.no_failed (subst TellsNoRead stops.0 (flushed_no_read mid new fault answer flushes no_write never)), refl, none_failed second);
       after_genome = λ file holds wrong e. (stops.1, stops.2);
       untouched = λ t e place at is. (stops.1, stops.2);
       begun = inl (stops.1, stops.2);
@@ -282,7 +284,7 @@ module _ {G A B K : Type 0} (source_g : Source G) (source_a : Source A) (source_
     }
 
   pub runs_by : (chromosomes : Result (Option Genome) Fault) → ReadsChromosomes source_g genome chromosomes genome_after → WritesOutput source_a source_b command first second begun fault first_after second_after mid chromosomes → RunsSo
-  runs_by (Ok table) knows writes = runs_written table knows.1 writes.written
+  runs_by (Ok table) knows writes = runs_written table knows.1 writes
   runs_by (Err wrong) lacks stops = runs_wrong (fault_value wrong) lacks.1 stops
 
 -- What a user sees of a run is the report.

@@ -1,7 +1,7 @@
-use Rattle.bt_lines.proofs.Std.{None, refl, sym, ap, ◌∙◌}
+use Rattle.bt_lines.proofs.Std.{sym, ap, ◌∙◌}
 use Rattle.bt_lines.specs.calls.Reader.{source_of}
-use Rattle.bt_tool.proofs.lemmas.running.feed.DrivingLemmas.{IsFreshReader, own_up_to, writes_all, writes_up_to}
-use Rattle.bt_tool.proofs.lemmas.running.whole.OwnFailureLemmas.{kept_there, served_of, tells_nothing}
+use Rattle.bt_tool.proofs.lemmas.running.feed.DrivingLemmas.{IsFreshReader, writes_all, writes_up_to}
+use Rattle.bt_tool.proofs.lemmas.running.whole.OwnFailureLemmas.{kept_there}
 use Rattle.bt_tool.proofs.loops.converting.convert.Goals as goal
 
 pub returns-in-Ok : goal.returns-in-Ok
@@ -20,12 +20,8 @@ returns-in-Ok g c =
       lines = reader.lines;
       sound = reader.sound;
     } in
-    record {
-      written = writes_all c.args.split c.args.cigar fresh_reader
-          c.new-converter.ensures c.args.out.now.output done.0 (ap source_of done.1 ∙ ended) c.convert_all-converted.new.out.output (kept_there done.0 c.convert_all-converted.new.lines done.1 done.3) done.2;
-      reads = λ never. (served_of g.A.Source reader.source (ap source_of done.1 ∙ ended) done.2.took.bytes (rw done.1 (c.in-Ok.ensures.none_kept tt)), tt);
-      own_failure = tells_nothing ⊥ _ ⊥ None refl;
-    }
+    writes_all c.args.split c.args.cigar fresh_reader
+    c.new-converter.ensures c.args.out.now.output done.0 (ap source_of done.1 ∙ ended) c.convert_all-converted.new.out.output (kept_there done.0 c.convert_all-converted.new.lines done.1 done.3) done.2
 
 pub returns-in-Err : goal.returns-in-Err
 returns-in-Err g c =
@@ -43,10 +39,6 @@ returns-in-Err g c =
       lines = reader.lines;
       sound = reader.sound;
     } in
-    record {
-      written = writes_up_to c.args.split c.args.cigar fresh_reader
-          c.new-converter.ensures c.args.out.now.output done.0 (ap source_of done.1 ∙ ended) c.convert_all-converted.new.out.output (kept_there done.0 c.convert_all-converted.new.lines done.1 done.3) done.2;
-      reads = λ never. (served_of g.A.Source reader.source (ap source_of done.1 ∙ ended) done.2.took.bytes (rw done.1 (c.in-Err.ensures.none_kept never)), tt);
-      own_failure = own_up_to c.args.split c.args.cigar fresh_reader c.new-converter.ensures c.args.out.now.output done.0 (ap source_of done.1 ∙ ended) c.convert_all-converted.new.out.output
-          (kept_there done.0 c.convert_all-converted.new.lines done.1 done.3) done.2;
-    }
+    writes_up_to c.args.split c.args.cigar fresh_reader
+    c.new-converter.ensures c.args.out.now.output done.0 (ap source_of done.1 ∙ ended) c.convert_all-converted.new.out.output (kept_there done.0 c.convert_all-converted.new.lines done.1 done.3)
+    (λ never. rw done.1 (c.in-Err.ensures.none_kept never)) done.2

@@ -1,18 +1,15 @@
-use Rattle.bt_lines.proofs.Std.{◌∙◌, ap, refl, sym, subst, None}
-use Rattle.bt_lines.specs.calls.Names.{fault_value}
+use Rattle.bt_lines.proofs.Std.{◌∙◌, ap, sym, subst}
 use Rattle.bt_lines.specs.calls.Reader.{source_of}
 use Rattle.bt_bed.specs.model.Feature.{Feature, intervals_of}
-use Rattle.bt_bed.specs.model.BedLine.{IsBedKind}
 use Rattle.bt_bed.specs.model.Good.{bed_format}
 use Rattle.bt_bed.specs.model.Sorted.{sorting_of}
 use Rattle.bt_bed.specs.calls.Orders.{ArePlaced}
-use Rattle.bt_bed.specs.calls.Records.{order_in, view_of}
-use Rattle.bt_tool.specs.inside.Feed.{AreInOrder, member_items}
+use Rattle.bt_bed.specs.calls.Records.{view_of}
+use Rattle.bt_tool.specs.inside.Feed.{member_items}
 use Rattle.bt_tool.specs.model.Written.{Written}
 use Rattle.bt_tool.proofs.lemmas.running.feed.FeedLemmas.{goes_failed, goes_works}
 use Rattle.bt_tool.proofs.lemmas.running.feed.DrivingLemmas.{IsDriven, drives_all, drives_cut, drives_fault, records_sorted, sorted_start}
 use Rattle.bt_tool.proofs.lemmas.running.members.CursorLemmas.{begins_over, fresh_over}
-use Rattle.bt_tool.proofs.lemmas.running.whole.OwnFailureLemmas.{bed_no_read, feeds_own, served_of, tells_nothing, tells_write}
 use Rattle.bt_runs.proofs.lemmas.Engine.{finishes_prefix}
 use Rattle.bt_tool.proofs.loops.driving.drive.Goals as goal
 
@@ -36,12 +33,7 @@ returns-in-Err g c =
     let ended = sym (c.into_source-first.ensures ∙ ap source_of c.into_reader.ensures) in
     let driven : IsDriven written (g.E.Engine.definition.takes c.args.engine) (bed_format (sorting_of order)) (view_of c.new-records.result) c.args.first (view_of c.feed_all-fed.new.records) c.into_source-first.result =
     record { stays = c.requires.stays; begins = c.requires.begins; taken = sorted; starts = starts; ended = ended; kept = c.feed_all-fed.ensures.kept } in
-    record {
-      written = rw records.order at (drives_fault g.A.Source driven _ _ _ c.in-Err.ensures.feeds);
-      reads = λ never. (served_of g.A.Source starts.source ended c.in-Err.ensures.feeds.took.bytes (c.in-Err.ensures.none_kept never), tt);
-      own_failure = feeds_own g.A.Source starts (view_of c.feed_all-fed.new.records) ended c.feed_all-fed.ensures.kept
-          (IsBedKind (order_in c.new-records.result)) (bed_no_read (order_in c.new-records.result)) (AreInOrder (order_in c.new-records.result)) c.in-Err.ensures.feeds;
-    }
+    rw records.order at (drives_fault g.A.Source driven _ _ _ c.in-Err.ensures.none_kept c.in-Err.ensures.feeds)
 
 pub returns-in-Err-finish : goal.returns-in-Err-finish
 returns-in-Err-finish g c =
@@ -58,12 +50,8 @@ returns-in-Err-finish g c =
     let takes = c.requires.takes (member_items fed.past) (subst (λ o. ArePlaced o (intervals_of (member_items fed.past))) records.order fed.took.sorted.0) fed.took.sorted.1 in
     let said = finishes_prefix _ c.in-Err-finish.ensures.finishes (c.in-Err-finish.ensures.finishes.going _ _ fed.stands) in
     let cuts = said.cuts _ _ fed.stands takes in
-    record {
-      written = rw records.order at (drives_cut g.A.Source driven _ _ _ fed (goes_failed c.feed_all-fed.new.out.output c.finish.new.out.output c.in-Err-finish.ensures.finishes.grows said.failed)
-          said.is cuts.bytes cuts.goes_on cuts.front said.sink_failed);
-      reads = λ never. (served_of g.A.Source starts.source ended fed.took.bytes (c.in_default.ensures.none_kept tt), tt);
-      own_failure = tells_write ⊥ _ ⊥ (fault_value c.in-Err-finish.fault) said.is;
-    }
+    rw records.order at (drives_cut g.A.Source driven _ _ _ fed (goes_failed c.feed_all-fed.new.out.output c.finish.new.out.output c.in-Err-finish.ensures.finishes.grows said.failed)
+    said.is cuts.bytes cuts.goes_on cuts.front said.sink_failed)
 
 pub returns : goal.returns
 returns g c =
@@ -79,10 +67,6 @@ returns g c =
     let fed = c.in_default.ensures.feeds in
     let takes = c.requires.takes (member_items fed.past) (subst (λ o. ArePlaced o (intervals_of (member_items fed.past))) records.order fed.took.sorted.0) fed.took.sorted.1 in
     let puts = c.in_default-finish.ensures.finishes.answers.puts _ _ fed.stands takes in
-    record {
-      written = rw records.order at (drives_all g.A.Source driven _ _ _ fed (goes_works _ _ c.in_default-finish.ensures.finishes.grows c.in_default-finish.ensures.finishes.answers.works)
-          puts.bytes puts.goes_on puts.appends
-          (c.in_default-finish.ensures.finishes.answers.works.sink_served));
-      reads = λ never. (served_of g.A.Source starts.source ended fed.took.bytes (c.in_default.ensures.none_kept tt), tt);
-      own_failure = tells_nothing ⊥ _ ⊥ None refl;
-    }
+    rw records.order at (drives_all g.A.Source driven _ _ _ fed (goes_works _ _ c.in_default-finish.ensures.finishes.grows c.in_default-finish.ensures.finishes.answers.works)
+    puts.bytes puts.goes_on puts.appends
+    (c.in_default-finish.ensures.finishes.answers.works.sink_served))

@@ -1,4 +1,4 @@
-use Rattle.bt_lines.proofs.Std.{refl, sym, ◌∙◌, ap, false≢true}
+use Rattle.bt_lines.proofs.Std.{refl, sym, ◌∙◌, ap}
 use Rattle.bt_lines.specs.calls.Reader.{source_of}
 use Rattle.bt_lines.specs.declared.fault.Input.TheVariants.{Second}
 use Rattle.bt_bed.specs.calls.Blocks.{view_of}
@@ -12,7 +12,6 @@ use Rattle.bt_bed.proofs.lemmas.read.good.ReadingLemmas.{good_at_first}
 use Rattle.bt_tool.proofs.lemmas.running.members.CursorLemmas.{begins_over, fresh_over}
 use Rattle.bt_tool.proofs.lemmas.running.pair.PairMet.{writes_both}
 use Rattle.bt_tool.proofs.lemmas.running.pair.PairNear.{near_both}
-use Rattle.bt_tool.proofs.lemmas.running.whole.OwnFailureLemmas.{both_own, served_of}
 use Rattle.bt_tool.proofs.loops.masking.mask.Goals as goal
 
 pub run_two-fault-requires : goal.run_two-fault-requires
@@ -38,13 +37,6 @@ returns g c =
     let begins_second = begins_over g.B.Source (view_of c.new-records.result) records.below reader_2.none_taken.0 reader_2.none_fed reader_2.source reader_2.input reader_2.going.0 reader_2.going.2 reader_2.lines records.good in
     let ended = ap source_of ends.1 ∙ sym c.into_source-first.ensures in
     let ended_second = sym (c.into_source-second.ensures ∙ ap source_of c.into_reader.ensures) in
-    record {
-      written = writes_both (λ two. good_in_blocks Second two) (mask_limits c.args.how) begins begins_second ended ended_second ends.2.kept_first ends.2.kept_second ends.2.finishes
-          (mask_settles c.args.how c.args.full) (mask_reaches c.args.full) (near_both (λ two. good_in_blocks Second two) (mask_needs c.args.how) begins begins_second
-          ended ended_second ends.2.finishes);
-      reads = λ never.
-          let none = ends.2.none_kept never in
-          let wrote = ends.2.finishes in
-          (served_of g.A.Source begins.source ended wrote.first_bytes none.0, served_of g.B.Source begins_second.source ended_second wrote.second_bytes none.1);
-      own_failure = both_own begins begins_second ended ended_second ends.2.finishes (λ kind. false≢true kind) (λ kind. false≢true kind) ends.2.kept_first ends.2.kept_second;
-    }
+    writes_both (λ two. good_in_blocks Second two) (mask_limits c.args.how) begins begins_second ended ended_second ends.2.kept_first ends.2.kept_second ends.2.finishes
+    (mask_settles c.args.how c.args.full) (mask_reaches c.args.full) (near_both (λ two. good_in_blocks Second two) (mask_needs c.args.how) begins begins_second
+    ended ended_second ends.2.finishes) ends.2.none_kept

@@ -13,7 +13,6 @@ use Rattle.bt_tool.proofs.lemmas.running.members.CursorLemmas.{begins_over, fres
 use Rattle.bt_tool.proofs.lemmas.running.sweep.SweepRounds.{sweeps_start}
 use Rattle.bt_tool.proofs.lemmas.running.sweep.SweepFacts.{sweep_needs, sweep_limits}
 use Rattle.bt_tool.proofs.lemmas.running.feed.DrivingLemmas.{sorted_start}
-use Rattle.bt_tool.proofs.lemmas.running.whole.OwnFailureLemmas.{bed_no_read, both_own, served_of, swept_no_read}
 use Rattle.bt_tool.proofs.loops.sweeping.sweep.Goals as goal
 
 pub run_two-fault-requires : goal.run_two-fault-requires
@@ -53,13 +52,6 @@ returns g c =
     let begins_second = begins_over g.B.Source (view_of c.new-seconds.result) records_2.below reader_2.none_taken.0 reader_2.none_fed reader_2.source reader_2.input reader_2.going.0 reader_2.going.2 reader_2.lines records_2.good in
     let ended = sym (c.into_source-first.ensures ∙ ap source_of c.into_reader.ensures) in
     let ended_second = sym (c.into_source-second.ensures ∙ ap source_of c.into_reader-2.ensures) in
-    record {
-      written = writes_both (λ two. placed_good Second order two c.requires.total) (sweep_limits order c.args.config) begins begins_second ended ended_second c.run_two-fault.ensures.kept_first c.run_two-fault.ensures.kept_second ends
-          (intersect_settles order c.args.config.shape c.args.config.rule) (intersect_reaches order)
-          (near_both (λ two. placed_good Second order two c.requires.total) (sweep_needs order c.args.config) begins begins_second ended ended_second ends);
-      reads = λ never.
-          let none = c.run_two-fault.ensures.none_kept never in
-          (served_of g.A.Source begins.source ended ends.first_bytes none.0, served_of g.B.Source begins_second.source ended_second ends.second_bytes none.1);
-      own_failure = both_own begins begins_second ended ended_second ends
-          (bed_no_read order) (swept_no_read order c.args.config.limit) c.run_two-fault.ensures.kept_first c.run_two-fault.ensures.kept_second;
-    }
+    writes_both (λ two. placed_good Second order two c.requires.total) (sweep_limits order c.args.config) begins begins_second ended ended_second c.run_two-fault.ensures.kept_first c.run_two-fault.ensures.kept_second ends
+    (intersect_settles order c.args.config.shape c.args.config.rule) (intersect_reaches order)
+    (near_both (λ two. placed_good Second order two c.requires.total) (sweep_needs order c.args.config) begins begins_second ended ended_second ends) c.run_two-fault.ensures.none_kept
