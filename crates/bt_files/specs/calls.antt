@@ -1,4 +1,5 @@
 pub mod Ending
 pub mod Message
 pub mod Opened
+pub mod RealFiles
 pub mod StandIns

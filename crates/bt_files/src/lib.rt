@@ -32,6 +32,7 @@ mod carrying_out;
 #[cfg(test)]
 mod example;
 mod files;
+mod headline;
 mod identity;
 mod message;
 mod moved_bytes;
@@ -42,6 +43,7 @@ mod system_files;
 
 pub use carrying_out::{Finished, OpenedFiles, carry_out};
 pub use files::{Files, Unopened};
+pub use headline::real_files_get_their_report;
 pub use identity::is_input;
 pub use message::{Message, MessageLine, Obstacle};
 pub use opened::{Input, Opened, input_named};
