@@ -23,8 +23,8 @@ results.json, and writes them anew: results.py says what. With `--trial` the mac
 written instead, marked as a trial. With `--inputs` the inputs stay in FOLDER, and those that are there are taken:
 `--prepare` only writes them, on all processors.
 
-With `--odd` it measures the odd inputs of odd.py beside bedtools, at one size, into odd.json and the pages; with `--only`
-it prints some of them and writes nothing. It fails where the outputs differ. A trial is as above.
+With `--odd` it measures the odd inputs of odd.py beside bedtools, at one size, into odd.json and the pages; with
+`--only` it prints some of them and writes nothing. It fails where the outputs differ. A trial is as above.
 
 With `--check` nothing is timed: the instructions a record of this program are compared with those in
 instructions.txt. It fails where a workload takes over 3 percent more than there, or isn't there, and says
@@ -91,7 +91,8 @@ class Run:
 def time_run(run, output):
     """Runs a program, and keeps its least processor time in seconds and its highest peak memory in kilobytes."""
     with open(run.source or os.devnull, "rb") as source, open(output, "wb") as out:
-        process = subprocess.Popen(run.words_into(output), stdin=source, stdout=out, cwd=run.folder, preexec_fn=lambda: trace(TRACEME, 0))
+        process = subprocess.Popen(run.words_into(output), stdin=source, stdout=out, cwd=run.folder,
+                                   preexec_fn=lambda: trace(TRACEME, 0))
     kilobytes, status, seconds = ended(process.pid)
     run.kilobytes = max(run.kilobytes, kilobytes)
     process.returncode = os.waitstatus_to_exitcode(status)
@@ -144,11 +145,13 @@ def runs_of(workload, others, folder):
     genome = {program: ["-g", str(folder / "genome.txt")] for program in workload.genome_of}
     inputs = workload.data.inputs(folder)
     into = workload.output_option
-    runs = [Run("dunekettle", [str(PROGRAM), *workload.words, *inputs, *genome.get("dunekettle", [])], output_option=into)]
+    runs = [Run("dunekettle", [str(PROGRAM), *workload.words, *inputs, *genome.get("dunekettle", [])],
+                output_option=into)]
     if others["bedtools"] and (not isinstance(workload.data, Alignments) or shutil.which("samtools")):
         inputs = getattr(workload.data, "inputs_of_bedtools", workload.data.inputs)(folder)
         words = workload.words_of_bedtools or workload.words
-        runs.append(Run("bedtools", [others["bedtools"], *words, *inputs, *genome.get("bedtools", [])], output_option=into))
+        runs.append(Run("bedtools", [others["bedtools"], *words, *inputs, *genome.get("bedtools", [])],
+                        output_option=into))
     if others["bedops"] and workload.bedops:
         runs.append(Run("bedops", [others["bedops"], *workload.bedops, str(folder / "records.bed")]))
     if others["plain C"] and workload.is_plain:
@@ -169,17 +172,18 @@ def prepared(workload, folder, size):
     return place
 
 
-def compare(workload, others, folder, size, times, discard):
-    """Runs a workload on `size` records by each program, so many times. Answers what each took, with its least time."""
+def compare(workload, others, folder, size, asked):
+    """Runs a workload on `size` records by each program, as often as is asked. Answers what each took, with its least
+    time."""
     place = prepared(workload, folder, size)
     runs = runs_of(workload, others, place)
     megabytes = (place / "records.bed").stat().st_size / 1e6
     print(f"{workload.name()}: about {size} records, {megabytes:.0f} MB")
-    outputs = {run.program: Path(os.devnull) if discard else folder / f"{run.program}.bed" for run in runs}
-    for _ in range(times):
+    outputs = {run.program: Path(os.devnull) if asked.discard else folder / f"{run.program}.bed" for run in runs}
+    for _ in range(asked.times):
         for run in runs:
             time_run(run, outputs[run.program])
-        if not discard:
+        if not asked.discard:
             check_same(runs, outputs)
     for run in runs:
         part = "" if run is runs[0] else f", of which ours is {runs[0].seconds / run.seconds:.2f}"
@@ -211,7 +215,8 @@ def instructions_of(valgrind, run):
     """The instructions of a run, as callgrind counts them."""
     words = [valgrind, "--tool=callgrind", "--callgrind-out-file=/dev/null", *run.words_into(os.devnull)]
     with open(run.source or os.devnull, "rb") as source:
-        counted = subprocess.run(words, stdin=source, stdout=subprocess.DEVNULL, stderr=subprocess.PIPE, check=True, text=True)
+        counted = subprocess.run(words, stdin=source, stdout=subprocess.DEVNULL, stderr=subprocess.PIPE, check=True,
+                                 text=True)
     return int(re.search(r"Collected : (\d+)", counted.stderr).group(1))
 
 
@@ -225,7 +230,8 @@ def stored_instructions():
     """The instructions a record of each workload by its name, as they are stored."""
     if not STORED.exists():
         return {}
-    lines = [line.split(maxsplit=1) for line in STORED.read_text(encoding="ascii").splitlines() if not line.startswith("#")]
+    lines = [line.split(maxsplit=1) for line in STORED.read_text(encoding="ascii").splitlines()
+             if not line.startswith("#")]
     return {name: float(count) for count, name in lines}
 
 
@@ -239,7 +245,8 @@ def store_instructions(counts):
 def checked_instructions(valgrind, only):
     """Counts this program's instructions a record of each workload, and yields its name with them."""
     with tempfile.TemporaryDirectory() as folder:
-        for workload in (it for it in (*WORKLOADS, *COUNTED_WORKLOADS) if only in it.name() and it.counts("dunekettle")):
+        for workload in (it for it in (*WORKLOADS, *COUNTED_WORKLOADS)
+                         if only in it.name() and it.counts("dunekettle")):
             place = prepared(workload, Path(folder), COUNTED)
             run = runs_of(workload, NO_OTHERS, place)[0]
             yield workload.name(), instructions_of(valgrind, run) / lines_of(place / "records.bed")
@@ -254,7 +261,8 @@ def check(valgrind, only, is_stored):
     for name, count in checked_instructions(valgrind, only):
         kept[name] = count
         change = count / stored[name] - 1 if name in stored else None
-        print(f"{count:9.1f}  {name}, " + ("not stored" if change is None else f"{change:+.1%} beside the stored ones"), flush=True)
+        print(f"{count:9.1f}  {name}, " + ("not stored" if change is None else f"{change:+.1%} beside the stored ones"),
+              flush=True)
         if change is None or change > ALLOWED:
             grown.append(name)
         elif change < -ALLOWED:
@@ -322,7 +330,7 @@ def compare_all(asked, valgrind):
         others = found_others(folder)
         for workload in (it for it in WORKLOADS if asked.only in it.name()):
             sizes = (asked.records // 10, asked.records)
-            small, large = (compare(workload, others, folder, size, asked.times, asked.discard) for size in sizes)
+            small, large = (compare(workload, others, folder, size, asked) for size in sizes)
             if large[0].kilobytes > small[0].kilobytes + SLACK:
                 sys.exit("the memory grows with the input")
             if others["bedtools"]:

@@ -40,7 +40,8 @@ def build(copy):
     (copy / FILE).write_text(text.replace(OURS, OTHER), encoding="utf-8")
     print(f"proving and building the program with {OTHER}", file=sys.stderr)
     words = ["rt", "run", "--", "merge", "-i", "/dev/null", "-g", "/dev/null"]
-    done = subprocess.run(words, cwd=copy / "crates" / "bedtools", stdout=subprocess.PIPE, stderr=subprocess.STDOUT, text=True, check=False)
+    done = subprocess.run(words, cwd=copy / "crates" / "bedtools", stdout=subprocess.PIPE, stderr=subprocess.STDOUT,
+                          text=True, check=False)
     if done.returncode != 0:
         sys.exit(f"{done.stdout[-2000:]}the program with {OTHER} isn't built")
     return program

@@ -13,7 +13,8 @@ HUMAN = [(name, length * 1_000_000) for name, length in workloads.CHROMOSOMES]
 KARYOTYPE = sorted(HUMAN, key=lambda one: (len(one[0]), one[0]))
 ONE = [("chr1", 249_000_000)]
 # The chromosomes of a fly, 134 million bases, on which the genomecov of bedtools takes a second.
-FLY = [("chr2L", 23_513_712), ("chr2R", 25_286_936), ("chr3L", 28_110_227), ("chr3R", 32_079_331), ("chr4", 1_348_131), ("chrX", 23_542_271)]
+FLY = [("chr2L", 23_513_712), ("chr2R", 25_286_936), ("chr3L", 28_110_227), ("chr3R", 32_079_331), ("chr4", 1_348_131),
+       ("chrX", 23_542_271)]
 VIRUS = [("MN908947.3", 29_903)]
 MITOCHONDRION = [("chrM", 16_569)]
 # A chromosome of a salamander, whose positions don't fit into 31 bits.
@@ -86,7 +87,8 @@ def two_drafts(folder):
 def comments(folder):
     """Reads, with a comment before each in the first input."""
     numbers = random.Random(1)
-    lines = ((f"# read {at} was kept\n{name}", *columns) for at, (name, *columns) in enumerate(reads(numbers, HUMAN, 1_000_000, 149, 151)))
+    lines = ((f"# read {at} was kept\n{name}", *columns)
+             for at, (name, *columns) in enumerate(reads(numbers, HUMAN, 1_000_000, 149, 151)))
     write_lines(folder / "a.bed", lines)
     write_lines(folder / "b.bed", reads(numbers, HUMAN, 1_000_000, 50, 400))
 
@@ -94,7 +96,8 @@ def comments(folder):
 def long_chromosome_names(folder):
     """Records on 1,000 contigs of an assembler, whose names have 75 bytes."""
     numbers = random.Random(1)
-    assembled = contigs(1_000, 100_000, 900_000, "assembly_of_sample_2024_north_NODE_{:07}_length_000123456_cov_000012.345678")
+    assembled = contigs(1_000, 100_000, 900_000,
+                        "assembly_of_sample_2024_north_NODE_{:07}_length_000123456_cov_000012.345678")
     write_genome(folder, assembled)
     for file in ("a.bed", "b.bed"):
         write_lines(folder / file, reads(numbers, assembled, 1_000_000, 100, 300))
@@ -105,7 +108,8 @@ def long_record_names(folder):
     numbers = random.Random(1)
     for file in ("a.bed", "b.bed"):
         intervals = places(numbers, HUMAN, 1_000_000, 100, 300)
-        write_lines(folder / file, with_strands(numbers, intervals, "A01234:567:HXXXXXDSXY:1:1101:{:07}:1000" + "x" * 34))
+        write_lines(folder / file,
+                    with_strands(numbers, intervals, "A01234:567:HXXXXXDSXY:1:1101:{:07}:1000" + "x" * 34))
 
 
 def spanned(folder):
@@ -144,14 +148,15 @@ def touching_reads(folder):
 
 def exons_and_reads(folder):
     """100,000 exons of 50 to 400 bases, and 1,000,000 reads of 150, on a fiftieth of the human chromosomes."""
-    workloads.write_features(folder / "a.bed", 1_000_000, workloads.EXONS, 1, 0.02)
-    workloads.write_features(folder / "b.bed", 1_000_000, workloads.READS, 2, 0.02)
+    workloads.write_features(folder / "a.bed", 1_000_000, workloads.EXONS, 1, workloads.Part(0.02))
+    workloads.write_features(folder / "b.bed", 1_000_000, workloads.READS, 2, workloads.Part(0.02))
 
 
 def amplicons(folder):
     """98 amplicons of a virus that overlap, and 1,000,000 reads of 150 bases."""
     numbers = random.Random(1)
-    write_lines(folder / "a.bed", ((VIRUS[0][0], 30 + 303 * at, 430 + 303 * at, f"amplicon_{at + 1}") for at in range(98)))
+    write_lines(folder / "a.bed",
+                ((VIRUS[0][0], 30 + 303 * at, 430 + 303 * at, f"amplicon_{at + 1}") for at in range(98)))
     write_lines(folder / "b.bed", places(numbers, VIRUS, 1_000_000, 150, 150))
 
 
@@ -159,7 +164,8 @@ def mixed_reads(folder, count):
     """Reads of mixed lengths on a virus."""
     numbers = random.Random(9)
     starts = sorted(numbers.randint(0, 27_000) for _ in range(count))
-    write_lines(folder / "a.bed", ((VIRUS[0][0], start, min(VIRUS[0][1], start + numbers.randint(500, 5_000))) for start in starts))
+    write_lines(folder / "a.bed",
+                ((VIRUS[0][0], start, min(VIRUS[0][1], start + numbers.randint(500, 5_000))) for start in starts))
     write_genome(folder, VIRUS)
 
 
@@ -217,9 +223,11 @@ def isoforms(folder):
     for name, start, stop in places(numbers, HUMAN, 20_000, 2_000, 100_000):
         strand = numbers.choice("+-")
         slack = (stop - start) // 4
-        found += ((name, start + numbers.randrange(slack), stop - numbers.randrange(slack), strand) for _ in range(numbers.randint(1, 15)))
+        found += ((name, start + numbers.randrange(slack), stop - numbers.randrange(slack), strand)
+                  for _ in range(numbers.randint(1, 15)))
     found.sort(key=lambda one: one[:2])
-    lines = list(with_blocks(numbers, ((*place, f"ENST{at:011}.1", 0, strand) for at, (*place, strand) in enumerate(found))))
+    lines = list(with_blocks(numbers,
+                             ((*place, f"ENST{at:011}.1", 0, strand) for at, (*place, strand) in enumerate(found))))
     for file in ("a.bed", "b.bed"):
         write_lines(folder / file, lines)
 
@@ -276,7 +284,8 @@ def write_sam(folder, chromosomes, alignments):
             count = sum(size for size, kind in operations if kind in "MIS")
             cigar = "".join(f"{size}{kind}" for size, kind in operations)
             first = start % (60_000 - count)
-            lines.write(f"{read}\t{flag}\t{name}\t{start + 1}\t60\t{cigar}\t*\t0\t0\t{bases[first : first + count]}\t{'9' * count}\tNM:i:7\n")
+            lines.write(f"{read}\t{flag}\t{name}\t{start + 1}\t60\t{cigar}\t*\t0\t0\t{bases[first : first + count]}\t"
+                        f"{'9' * count}\tNM:i:7\n")
 
 
 def uuid(numbers):
@@ -297,8 +306,9 @@ def nanopore_alignments(folder):
     """20,000 nanopore reads, whose CIGARs have hundreds of parts."""
     numbers = random.Random(1)
     starts = places(numbers, HUMAN, 20_000, 1, 20_000)
-    write_sam(folder, HUMAN, ((uuid(numbers), numbers.choice((0, 16, 256, 2064)), name, start, nanopore_operations(numbers, numbers.randint(50, 500)))
-                              for name, start, _ in starts))
+    write_sam(folder, HUMAN,
+              ((uuid(numbers), numbers.choice((0, 16, 256, 2064)), name, start,
+                nanopore_operations(numbers, numbers.randint(50, 500))) for name, start, _ in starts))
 
 
 def spliced_alignments(folder):
@@ -308,20 +318,24 @@ def spliced_alignments(folder):
     def operations():
         parts = nanopore_operations(numbers, numbers.randint(0, 5))
         for _ in range(numbers.randint(0, 40)):
-            parts[-1:] = [(numbers.randint(100, 5_000), "N"), (numbers.randint(20, 200), "M"), (5, "D"), (10, "M"), parts[-1]]
+            parts[-1:] = [(numbers.randint(100, 5_000), "N"), (numbers.randint(20, 200), "M"), (5, "D"), (10, "M"),
+                          parts[-1]]
         return parts
 
     starts = places(numbers, HUMAN, 100_000, 1, 300_000)
-    write_sam(folder, HUMAN, ((uuid(numbers), numbers.choice((0, 16)), name, start, operations()) for name, start, _ in starts))
+    write_sam(folder, HUMAN,
+              ((uuid(numbers), numbers.choice((0, 16)), name, start, operations()) for name, start, _ in starts))
 
 
 def short_alignments(folder):
     """500,000 mapped and unmapped reads of 75 bases, of pairs."""
     numbers = random.Random(1)
     starts = places(numbers, HUMAN, 500_000, 1, 1_000)
-    kinds = ([(75, "M")], [(75, "M")], [(5, "S"), (70, "M")], [(30, "M"), (2, "D"), (45, "M")], [(40, "M"), (900, "N"), (35, "M")])
-    write_sam(folder, HUMAN, ((f"K00:{at}", numbers.choice((99, 147, 83, 163, 77, 141)), name, start, numbers.choice(kinds))
-                              for at, (name, start, _) in enumerate(starts)))
+    kinds = ([(75, "M")], [(75, "M")], [(5, "S"), (70, "M")], [(30, "M"), (2, "D"), (45, "M")],
+             [(40, "M"), (900, "N"), (35, "M")])
+    write_sam(folder, HUMAN,
+              ((f"K00:{at}", numbers.choice((99, 147, 83, 163, 77, 141)), name, start, numbers.choice(kinds))
+               for at, (name, start, _) in enumerate(starts)))
 
 
 def nanopore_reads(folder):
@@ -329,7 +343,8 @@ def nanopore_reads(folder):
     numbers = random.Random(1)
     write_genome(folder, HUMAN)
     intervals = places(numbers, HUMAN, 300_000, 200, 50_000)
-    write_lines(folder / "a.bed", ((*interval, uuid(numbers), numbers.randint(0, 60), numbers.choice("+-")) for interval in intervals))
+    write_lines(folder / "a.bed",
+                ((*interval, uuid(numbers), numbers.randint(0, 60), numbers.choice("+-")) for interval in intervals))
     write_lines(folder / "b.bed", reads(numbers, HUMAN, 60_000, 500, 100_000))
 
 
@@ -337,7 +352,8 @@ def blank_lines(folder):
     """Records that are apart, with a blank line after each."""
     numbers = random.Random(1)
     write_genome(folder, FLY)
-    lines = ((name, start, start + numbers.randint(20, 120)) for name, length in FLY for start in range(0, length - 130, 130))
+    lines = ((name, start, start + numbers.randint(20, 120)) for name, length in FLY
+             for start in range(0, length - 130, 130))
     write_lines(folder / "a.bed", lines, "\n\n")
 
 
@@ -385,7 +401,8 @@ def one_chromosome(folder):
 def variants_and_genes(folder):
     """1,000,000 variants of one base, and genes."""
     numbers = random.Random(1)
-    bases = ((*place, f"rs{at}", f"{numbers.choice('AC')}/{numbers.choice('GT')}") for at, place in enumerate(places(numbers, HUMAN, 1_000_000, 1, 1)))
+    bases = ((*place, f"rs{at}", f"{numbers.choice('AC')}/{numbers.choice('GT')}")
+             for at, place in enumerate(places(numbers, HUMAN, 1_000_000, 1, 1)))
     write_lines(folder / "a.bed", bases)
     write_lines(folder / "b.bed", reads(numbers, HUMAN, 60_000, 500, 100_000))
 
@@ -395,7 +412,8 @@ def bins(folder):
     numbers = random.Random(1)
     write_genome(folder, FLY)
     for file, size in (("a.bed", 130), ("b.bed", 1_000)):
-        lines = ((name, start, min(start + size, length), f"{numbers.random():.5f}") for name, length in FLY for start in range(0, length, size))
+        lines = ((name, start, min(start + size, length), f"{numbers.random():.5f}") for name, length in FLY
+                 for start in range(0, length, size))
         write_lines(folder / file, lines)
 
 
@@ -435,7 +453,8 @@ def header_lines(folder):
     numbers = random.Random(1)
     intervals = enumerate(reads(numbers, HUMAN, 1_000_000, 100, 900))
     head = 'browser position chr1:1-1000\ntrack name="sample" description="peaks of a sample"\n'
-    write_lines(folder / "a.bed", ((head + name if at % 100 == 0 else name, *columns) for at, (name, *columns) in intervals))
+    write_lines(folder / "a.bed",
+                ((head + name if at % 100 == 0 else name, *columns) for at, (name, *columns) in intervals))
 
 
 def empty_second(folder):
@@ -449,7 +468,8 @@ def touching_sites(folder):
     """Sites of two bases, most of which touch the next, with a number each."""
     numbers = random.Random(1)
     write_genome(folder, FLY)
-    starts = ((name, start) for name, length in FLY for start in range(10_000, length // 40, 2) if numbers.random() < 0.2 or start // 100 % 3)
+    starts = ((name, start) for name, length in FLY for start in range(10_000, length // 40, 2)
+              if numbers.random() < 0.2 or start // 100 % 3)
     write_lines(folder / "a.bed", ((name, start, start + 2, numbers.randint(0, 100)) for name, start in starts))
     write_lines(folder / "b.bed", reads(numbers, FLY, 100_000, 100, 2_000))
 
@@ -460,7 +480,9 @@ def spaces(folder):
     words = ["coding region", "exon 7 of 9", "CpG: 30", "long repeat, old"]
     for file in ("a.bed", "b.bed"):
         intervals = places(numbers, HUMAN, 500_000, 100, 2_000)
-        write_lines(folder / file, ((*interval, f"{numbers.choice(words)} {at}", 0, numbers.choice("+-")) for at, interval in enumerate(intervals)))
+        write_lines(folder / file,
+                    ((*interval, f"{numbers.choice(words)} {at}", 0, numbers.choice("+-"))
+                     for at, interval in enumerate(intervals)))
 
 
 def short_names(folder):
@@ -476,7 +498,8 @@ def nested_domains(folder):
     """Domains in domains, twelve deep, and peaks."""
     numbers = random.Random(1)
     nests = list(places(numbers, HUMAN, 20_000, 100_000, 140_000))
-    domains = sorted((name, start + 2_000 * depth, stop - 2_000 * depth) for name, start, stop in nests for depth in range(12))
+    domains = sorted((name, start + 2_000 * depth, stop - 2_000 * depth) for name, start, stop in nests
+                     for depth in range(12))
     write_lines(folder / "a.bed", domains)
     write_lines(folder / "b.bed", places(numbers, HUMAN, 200_000, 200, 2_000))
 
@@ -531,4 +554,6 @@ def alignments_to_draft(folder):
     numbers = random.Random(1)
     draft = contigs(300_000, 1_000, 20_000)
     starts = few_on_each(numbers, draft, 3, 100, 100)
-    write_sam(folder, draft, ((f"A:{at}", numbers.choice((0, 16)), name, start, [(100, "M")]) for at, (name, start, _) in enumerate(starts)))
+    write_sam(folder, draft,
+              ((f"A:{at}", numbers.choice((0, 16)), name, start, [(100, "M")])
+               for at, (name, start, _) in enumerate(starts)))

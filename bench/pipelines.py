@@ -5,9 +5,9 @@
     bench/pipelines.py --trial FILE [N]     the same on any machine into a file, over N reads, and touches no page
 
 The pipelines are the scripts of bench/pipelines: NAME.sh calls `bedtools`, and NAME.rewritten.sh `dunekettle-bedtools`.
-Their second line says what they do. All three forms have to write the same bytes. Times are those of the clock, the least
-of several runs; how many calls the drop-in gave to Dunekettle is counted by DUNEKETTLE_TELL. bench/results.py writes the
-table and the chart from pipelines.json, and checks them.
+Their second line says what they do. All three forms have to write the same bytes. Times are those of the clock, the
+least of several runs; how many calls the drop-in gave to Dunekettle is counted by DUNEKETTLE_TELL. bench/results.py
+writes the table and the chart from pipelines.json, and checks them.
 """
 
 import json
@@ -54,18 +54,23 @@ def make(folder, reads):
     write(folder / "genome.txt", GENOME.items())
     header = "".join(f"@SQ\tSN:{name}\tLN:{size}\n" for name, size in GENOME.items())
     bases, marks = "ACGT" * 25, "I" * 100
-    lines = (f"r{n}\t{16 * (n % 2)}\t{name}\t{start + 1}\t60\t100M\t*\t0\t0\t{bases}\t{marks}\n" for n, (name, start, _) in enumerate(spread(draw, reads, 100, 101)))
+    lines = (f"r{n}\t{16 * (n % 2)}\t{name}\t{start + 1}\t60\t100M\t*\t0\t0\t{bases}\t{marks}\n"
+             for n, (name, start, _) in enumerate(spread(draw, reads, 100, 101)))
     (folder / "reads.sam").write_text("@HD\tVN:1.6\tSO:coordinate\n" + header + "".join(lines), encoding="utf-8")
     subprocess.run(["samtools", "view", "-b", "-o", "reads.bam", "reads.sam"], cwd=folder, check=True)
     (folder / "reads.sam").unlink()
-    write(folder / "exons.bed", ((*row, f"exon{n}", 0, "+-"[n % 2]) for n, row in enumerate(spread(draw, reads // 10, 80, 400))))
+    write(folder / "exons.bed",
+          ((*row, f"exon{n}", 0, "+-"[n % 2]) for n, row in enumerate(spread(draw, reads // 10, 80, 400))))
     for sample in (1, 2, 3):
-        write(folder / f"peaks_{sample}.bed", ((*row, f"peak{n}", n % 1000) for n, row in enumerate(spread(draw, reads // 10, 150, 900))))
+        write(folder / f"peaks_{sample}.bed",
+              ((*row, f"peak{n}", n % 1000) for n, row in enumerate(spread(draw, reads // 10, 150, 900))))
         subprocess.run(["gzip", f"peaks_{sample}.bed"], cwd=folder, check=True)
     write(folder / "promoters.bed", spread(draw, reads // 40, 1000, 1001))
     write(folder / "blacklist.bed", spread(draw, 1000, 500, 5000))
     write(folder / "repeats.bed", spread(draw, reads // 2, 50, 600))
-    write(folder / "genes.gtf", ((name, "made", "gene", start + 1, end, ".", "+", ".", f'gene_id "g{n}";') for n, (name, start, end) in enumerate(spread(draw, reads // 40, 2000, 40_000))))
+    write(folder / "genes.gtf",
+          ((name, "made", "gene", start + 1, end, ".", "+", ".", f'gene_id "g{n}";')
+           for n, (name, start, end) in enumerate(spread(draw, reads // 40, 2000, 40_000))))
     (folder / "samples").mkdir()
     for sample in range(200):
         write(folder / "samples" / f"{sample:03}.bed", spread(draw, 50, 100, 1000))
@@ -109,7 +114,8 @@ def measured(name, folder, place):
         sys.exit(f"{name}: the forms write different bytes")
     what = re.search(r"^# (.*)", (HERE / "pipelines" / f"{name}.sh").read_text(encoding="utf-8"), re.MULTILINE)[1]
     calls, by_us = taken(name, folder, place)
-    row = {"name": name, "what": what, "seconds": {form: round(min(all_), 3) for form, all_ in times.items()}, "calls": calls, "taken": by_us}
+    row = {"name": name, "what": what, "seconds": {form: round(min(all_), 3) for form, all_ in times.items()},
+           "calls": calls, "taken": by_us}
     print(row, flush=True)
     return row
 
@@ -129,7 +135,8 @@ def main():
         folder.mkdir()
         make(folder, reads)
         rows = [measured(name, folder, place) for name in NAMES]
-    kept = {"commit": commit(), "date": time.strftime("%Y-%m-%d"), "machine": machine(), "reads": reads, "times": TIMES, "is_trial": is_trial, "pipelines": rows}
+    kept = {"commit": commit(), "date": time.strftime("%Y-%m-%d"), "machine": machine(), "reads": reads, "times": TIMES,
+            "is_trial": is_trial, "pipelines": rows}
     Path(words[1] if is_trial else RESULTS).write_text(json.dumps(kept, indent=1) + "\n", encoding="utf-8")
     return 0 if is_trial else subprocess.run([HERE / "results.py", "--write"], check=False).returncode
 

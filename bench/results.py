@@ -58,8 +58,9 @@ NAMES = {
 }
 # What is reported beside the workloads that say so: other shapes, and what holds or waits for many records.
 ALSO = (
-    "intersect -sorted -v, reads and exons", "intersect -sorted -c, reads and exons", "intersect -sorted -u, 2,000 in 10,000 nested",
-    "intersect -sorted, 100,000 under a long one", "merge -s, 200,000 after one of the other strand", "genomecov -bg, peaks",
+    "intersect -sorted -v, reads and exons", "intersect -sorted -c, reads and exons",
+    "intersect -sorted -u, 2,000 in 10,000 nested", "intersect -sorted, 100,000 under a long one",
+    "merge -s, 200,000 after one of the other strand", "genomecov -bg, peaks",
 )
 SIZES = (1_000_000, 2_000_000, 4_000_000, 8_000_000)
 # A machine with more to do than this isn't idle.
@@ -81,7 +82,8 @@ def shown(command):
 
 def output_of(*words):
     """What a program writes on standard output, in one line."""
-    return " ".join(subprocess.run(words, cwd=TOP, stdout=subprocess.PIPE, stderr=subprocess.DEVNULL, text=True, check=False).stdout.split())
+    done = subprocess.run(words, cwd=TOP, stdout=subprocess.PIPE, stderr=subprocess.DEVNULL, text=True, check=False)
+    return " ".join(done.stdout.split())
 
 
 def machine():
@@ -110,7 +112,8 @@ def timed(workload, others, folder, size, times):
     for _ in range(times):
         for run in runs:
             compare.time_run(run, Path(os.devnull))
-    print(f"{workload.name()}, {size}: " + ", ".join(f"{run.program} {run.seconds:.3f} s {run.kilobytes} kB" for run in runs), flush=True)
+    took = ", ".join(f"{run.program} {run.seconds:.3f} s {run.kilobytes} kB" for run in runs)
+    print(f"{workload.name()}, {size}: {took}", flush=True)
     return {run.program: {"seconds": round(run.seconds, 4), "kilobytes": run.kilobytes} for run in runs}
 
 
@@ -123,14 +126,18 @@ def check_outputs(workload, others, folder, size):
     compare.check_same(runs, outputs)
 
 
-def measured(workload, others, folder, records, times, valgrind):
-    """The row of a workload."""
+def measured(workload, others, folder, records, times):
+    """The row of a workload, but for the instructions."""
     check_outputs(workload, others, folder, records // 10)
-    row = {"name": workload.name(), "command": workload.words[0], "runs": timed(workload, others, folder, records, times)}
+    return {"name": workload.name(), "command": workload.words[0],
+            "runs": timed(workload, others, folder, records, times)}
+
+
+def instructions(workload, folder, valgrind):
+    """The instructions a record of this program."""
     place = compare.prepared(workload, folder, compare.COUNTED)
     run = compare.runs_of(workload, compare.NO_OTHERS, place)[0]
-    row["instructions"] = round(compare.instructions_of(valgrind, run) / compare.lines_of(place / "records.bed"), 1)
-    return row
+    return round(compare.instructions_of(valgrind, run) / compare.lines_of(place / "records.bed"), 1)
 
 
 def grown(command, others, folder, sizes, times):
@@ -151,7 +158,8 @@ def sizes_for(records):
 
 
 def prepare(folder, records):
-    """Writes all inputs into a folder, on all processors: nothing is measured while they are written. Returns the exit status."""
+    """Writes all inputs into a folder, on all processors: nothing is measured while they are written. Returns the exit
+    status."""
     folder.mkdir(parents=True, exist_ok=True)
     wanted = [(it, size) for it in reported() for size in (records, records // 10, compare.COUNTED)]
     wanted += [(shown(command), size) for command in SHOWN for size in sizes_for(records)]
@@ -177,14 +185,17 @@ def measure(records, times, trial, inputs=None):
     if not trial:
         check_idle()
     kept = {
-        "commit": commit(), "date": time.strftime("%Y-%m-%d"), "machine": machine(), "records": records, "times": times, "is_trial": bool(trial),
-        "bedtools": version_of(["bedtools", "--version"], r"v(\S+)"), "bedops": version_of(["bedops", "--version"], r"version:\s*(\S+)"),
+        "commit": commit(), "date": time.strftime("%Y-%m-%d"), "machine": machine(), "records": records, "times": times,
+        "is_trial": bool(trial),
+        "bedtools": version_of(["bedtools", "--version"], r"v(\S+)"),
+        "bedops": version_of(["bedops", "--version"], r"version:\s*(\S+)"),
     }
     with tempfile.TemporaryDirectory() as own:
         folder = inputs or Path(own)
         prepare(folder, records)
         others = compare.found_others(folder)
-        kept["workloads"] = [measured(workload, others, folder, records, times, valgrind) for workload in reported()]
+        kept["workloads"] = [measured(workload, others, folder, records, times)
+                             | {"instructions": instructions(workload, folder, valgrind)} for workload in reported()]
         kept["growth"] = {command: grown(command, others, folder, sizes_for(records), times) for command in SHOWN}
     Path(trial or RESULTS).write_text(json.dumps(kept, indent=1) + "\n", encoding="utf-8")
     return 0 if trial else agree(True)
@@ -194,7 +205,8 @@ def digits(number):
     """A number of two significant digits."""
     if number >= 99.5:
         return f"{round(number, 1 - int(math.log10(number))):,.0f}"
-    return f"{number:.0f}" if number >= 9.95 else f"{number:.1f}" if number >= 0.995 else f"{number:.2f}" if number >= 0.0995 else f"{number:.3f}"
+    return (f"{number:.0f}" if number >= 9.95 else f"{number:.1f}" if number >= 0.995
+            else f"{number:.2f}" if number >= 0.0995 else f"{number:.3f}")
 
 
 def megabytes(kilobytes):
@@ -221,7 +233,8 @@ def caption(kept, about=""):
     """How the numbers were measured: what is said first, and then the runs, the machine and the commit."""
     trial = "**A trial on a busy machine, no result.** " if kept["is_trial"] else ""
     records = about or f"Up to {kept['records'] / 1e6:g} million records"
-    runs = "the fastest of several runs" if not kept["times"] else "one run" if kept["times"] == 1 else f"the fastest of {kept['times']} runs"
+    runs = ("the fastest of several runs" if not kept["times"] else "one run" if kept["times"] == 1
+            else f"the fastest of {kept['times']} runs")
     note = f" {kept['note']}" if "note" in kept else ""
     others = f"bedtools {kept['bedtools']}, bedops {kept['bedops']}"
     return f"{trial}{records}, {runs}. {kept['machine']}; commit {kept['commit']}, {kept['date']}; {others}.{note}\n"
@@ -235,8 +248,8 @@ def command_line(command):
     return line
 
 
-# The reads of a human genome at 30x, of 150 bases each, in millions; how many of the bench's size are alignments; and by
-# how much `samtools view` and bamtobed together are faster than bamtobed of bedtools is on BAM.
+# The reads of a human genome at 30x, of 150 bases each, in millions; how many of the bench's size are alignments; and
+# by how much `samtools view` and bamtobed together are faster than bamtobed of bedtools is on BAM.
 GENOME_READS = 600
 ALIGNED = 1.6
 WITH_SAMTOOLS = (1.5, 1.8)
@@ -244,13 +257,15 @@ WITH_SAMTOOLS = (1.5, 1.8)
 
 def whole_genome(kept):
     """What a BAM file of a human genome at 30x would cost, by the rates that were measured."""
-    took = {row["command"]: row["runs"] for row in kept["workloads"] if row["name"].endswith((", alignments", ", reads at 30x"))}
+    took = {row["command"]: row["runs"] for row in kept["workloads"]
+            if row["name"].endswith((", alignments", ", reads at 30x"))}
     theirs = took["bamtobed"]["bedtools"]["seconds"] / ALIGNED * GENOME_READS / 60
     depths = took["genomecov"]["dunekettle"]["seconds"] / (kept["records"] / 1e6) * GENOME_READS / 60
     low, high = (theirs / factor for factor in reversed(WITH_SAMTOOLS))
-    return (f"**A BAM file at 30x** has about {GENOME_READS} million reads of a human genome. By the rates measured here, `samtools view` and `bamtobed` "
-            f"take {low:.0f} to {high:.0f} minutes of CPU time for it, where `bedtools bamtobed` takes {theirs:.0f}; `dunekettle genomecov -bg` of its reads takes "
-            f"{depths:.0f} minute{'' if round(depths) == 1 else 's'} more. This is extrapolated, not measured.\n")
+    return (f"**A BAM file at 30x** has about {GENOME_READS} million reads of a human genome. By the rates measured "
+            f"here, `samtools view` and `bamtobed` take {low:.0f} to {high:.0f} minutes of CPU time for it, where "
+            f"`bedtools bamtobed` takes {theirs:.0f}; `dunekettle genomecov -bg` of its reads takes {depths:.0f} "
+            f"minute{'' if round(depths) == 1 else 's'} more. This is extrapolated, not measured.\n")
 
 
 def summary(kept):
@@ -260,24 +275,28 @@ def summary(kept):
     on_text = digits(next(times_faster(row) for row in kept["workloads"] if row["command"] == "bamtobed"))
     lines = "".join(f"    {command_line(command)}\n" for command in SHOWN)
     return (f"The bars are these calls, on up to {kept['records'] / 1e6:g} million records:\n\n{lines}\n"
-            f"Over [{len(factors)} workloads](bench/README.md#results) Dunekettle is {spread(factors, digits)} times faster than bedtools {kept['bedtools']} "
-            f"(CPU time), in half of them at least {half} times. `bamtobed` is {on_text} times faster on SAM text than bedtools on BAM; with `samtools view` "
-            f"before it, the two together are {WITH_SAMTOOLS[0]} to {WITH_SAMTOOLS[1]} times faster. [Some inputs are slow](bench/README.md#what-is-slow-and-why).\n\n"
-            f"{whole_genome(kept)}\n")
+            f"Over [{len(factors)} workloads](bench/README.md#results) Dunekettle is {spread(factors, digits)} times "
+            f"faster than bedtools {kept['bedtools']} (CPU time), in half of them at least {half} times. `bamtobed` "
+            f"is {on_text} times faster on SAM text than bedtools on BAM; with `samtools view` before it, the two "
+            f"together are {WITH_SAMTOOLS[0]} to {WITH_SAMTOOLS[1]} times faster. [Some inputs are "
+            f"slow](bench/README.md#what-is-slow-and-why).\n\n{whole_genome(kept)}\n")
 
 
 def by_command(kept):
-    """The table of bench/README.md by command: how much faster each is, and below it what other programs than bedtools take."""
-    lines = ["| command | times faster | for example | CPU seconds | bedtools | memory | bedtools |\n|" + "---|" * 7 + "\n"]
+    """The table of bench/README.md by command: how much faster each is, and below it what other programs than bedtools
+    take."""
+    lines = ["| command | times faster | for example | CPU seconds | bedtools | memory | bedtools |\n|" + "---|" * 7
+             + "\n"]
     for command in SHOWN:
         rows = [row for row in kept["workloads"] if row["command"] == command]
         ours, theirs = ([row["runs"][program]["kilobytes"] for row in rows] for program in ("dunekettle", "bedtools"))
         example = next(row for row in rows if row["name"] == shown(command).name())
         took = " | ".join(digits(example["runs"][program]["seconds"]) for program in ("dunekettle", "bedtools"))
-        lines.append(f"| `{command}` | {spread([times_faster(row) for row in rows], digits)} | {SHOWN[command]} | {took} "
-                     f"| {spread(ours, megabytes)} | {spread(theirs, megabytes)} |\n")
-    plain = [f"A [plain C program](plain_merge.c) that does only this ({row['name']}) takes {digits(row['runs']['plain C']['seconds'])} s.\n"
-             for row in kept["workloads"] if "plain C" in row["runs"]]
+        lines.append(f"| `{command}` | {spread([times_faster(row) for row in rows], digits)} | {SHOWN[command]} | "
+                     f"{took} | {spread(ours, megabytes)} | {spread(theirs, megabytes)} |\n")
+    plain = [f"A [plain C program](plain_merge.c) that does only this ({row['name']}) takes "
+             f"{digits(row['runs']['plain C']['seconds'])} s.\n" for row in kept["workloads"]
+             if "plain C" in row["runs"]]
     all_rows = f"[{RESULT_ROWS.name}]({RESULT_ROWS.name}) has each of the {len(kept['workloads'])} workloads.\n"
     return "".join(lines) + "".join(f"\n{line}" for line in [all_rows, *plain, bedops(kept), caption(kept)])
 
@@ -295,8 +314,10 @@ def result_rows(kept):
 def bedops(kept):
     """What the programs of bedops take for the same workloads."""
     sentences = []
-    for program, words in (("bedops", "`bedops --merge` takes"), ("convert2bed", "`convert2bed`, which writes more columns, takes")):
-        took = [f"{digits(row['runs'][program]['seconds'])} s ({row['name']})" for row in kept["workloads"] if program in row["runs"]]
+    for program, words in (("bedops", "`bedops --merge` takes"),
+                           ("convert2bed", "`convert2bed`, which writes more columns, takes")):
+        took = [f"{digits(row['runs'][program]['seconds'])} s ({row['name']})" for row in kept["workloads"]
+                if program in row["runs"]]
         sentences += [f"{words} {' and '.join(took)}."] if took else []
     return " ".join(sentences) + "\n"
 
@@ -312,20 +333,24 @@ def growth(kept):
 def pipeline_caption(measured):
     """How whole pipelines were measured."""
     trial = "**A trial on a busy machine, no result.** " if measured["is_trial"] else ""
-    return (f"{trial}Wall-clock seconds, over {measured['reads'] / 1e6:g} million reads and the other inputs, the fastest of {measured['times']} runs. "
-            f"{measured['machine']}; commit {measured['commit']}, {measured['date']}.\n")
+    return (f"{trial}Wall-clock seconds, over {measured['reads'] / 1e6:g} million reads and the other inputs, the "
+            f"fastest of {measured['times']} runs. {measured['machine']}; commit {measured['commit']}, "
+            f"{measured['date']}.\n")
 
 
 def pipelines(_):
     """The table and the chart of whole pipelines, if they were measured."""
     if not PIPELINES.exists():
-        return "Whole pipelines are measured by `bench/pipelines.py --results`; there is no result of this commit yet.\n"
+        return ("Whole pipelines are measured by `bench/pipelines.py --results`; there is no result of this commit "
+                "yet.\n")
     measured = json.loads(PIPELINES.read_text(encoding="utf-8"))
-    lines = ["| pipeline, wall-clock seconds | bedtools | drop-in, unchanged | calls it took | [rewritten](pipelines) |\n|---|---|---|---|---|\n"]
+    lines = ["| pipeline, wall-clock seconds | bedtools | drop-in, unchanged | calls it took | [rewritten](pipelines) "
+             "|\n|---|---|---|---|---|\n"]
     for row in measured["pipelines"]:
         theirs, front, ours = (digits(row["seconds"][form]) for form in ("bedtools", "drop-in", "rewritten"))
         lines.append(f"| {row['what']} | {theirs} | {front} | {row['taken']} of {row['calls']} | {ours} |\n")
-    return "".join(lines) + "\n![whole pipelines: bedtools, the drop-in, rewritten](pipelines.svg)\n\n" + pipeline_caption(measured)
+    return ("".join(lines) + "\n![whole pipelines: bedtools, the drop-in, rewritten](pipelines.svg)\n\n"
+            + pipeline_caption(measured))
 
 
 def ratio(row):
@@ -337,7 +362,8 @@ def by_ratio(kept):
     """The cells of each odd input, the largest part of bedtools' time first."""
     for row in sorted(kept["odd"], key=ratio, reverse=True):
         runs = [row["runs"][program] for program in ("dunekettle", "bedtools")]
-        yield [row["name"], *(digits(run["seconds"]) for run in runs), digits(ratio(row)), *(digits(run["kilobytes"] * 1024 / 1e6) for run in runs)]
+        yield [row["name"], *(digits(run["seconds"]) for run in runs), digits(ratio(row)),
+               *(digits(run["kilobytes"] * 1024 / 1e6) for run in runs)]
 
 
 def odd_inputs(kept):
@@ -345,7 +371,8 @@ def odd_inputs(kept):
     if not kept:
         return "Odd inputs weren't measured yet.\n"
     rows = list(by_ratio(kept))
-    lines = ["| workload | Dunekettle, s | bedtools, s | part of bedtools' time | MB | bedtools, MB |\n|" + "---|" * 6 + "\n"]
+    lines = ["| workload | Dunekettle, s | bedtools, s | part of bedtools' time | MB | bedtools, MB |\n|" + "---|" * 6
+             + "\n"]
     lines += [f"| {' | '.join(cells)} |\n" for cells in rows[:WORST]]
     if len(rows) > WORST:
         lines.append(f"| [{len(rows) - WORST} others]({ODD_ROWS.name}) | | | at most {rows[WORST][3]} | | |\n")
@@ -359,11 +386,11 @@ def odd_rows(kept):
     return "".join("\t".join(cells) + "\n" for cells in (head, *by_ratio(kept)))
 
 
-
 def odd_caption(kept):
     """How the odd inputs were measured."""
     trial = "**A trial on a busy machine, no result.** " if kept["is_trial"] else ""
-    return f"{trial}CPU time, the fastest of three or five runs. {kept['machine']}; commit {kept['commit']}, {kept['date']}; bedtools {kept['bedtools']}.\n"
+    return (f"{trial}CPU time, the fastest of three or five runs. {kept['machine']}; commit {kept['commit']}, "
+            f"{kept['date']}; bedtools {kept['bedtools']}.\n")
 
 
 def odd_claim(kept):
@@ -374,7 +401,8 @@ def odd_claim(kept):
     slower = sum(part > 1 for part in ratios)
     on = f"{len(ratios)} workloads of [odd inputs](bench/README.md#odd-inputs)"
     if slower:
-        return f"On {slower} of {on} it is slower than bedtools, and takes at most {digits(max(ratios))} times its CPU time.\n"
+        return (f"On {slower} of {on} it is slower than bedtools, and takes at most {digits(max(ratios))} times its "
+                "CPU time.\n")
     return f"On {on} it is never slower than bedtools: it takes at most {digits(max(ratios))} of its CPU time.\n"
 
 
@@ -401,7 +429,8 @@ def read(path):
 
 def page(path, kept, odd):
     """The text of a page with its tables."""
-    made = {name: table(kept) for name, table in TABLES.items()} | {name: table(odd) for name, table in ODD_TABLES.items()}
+    made = ({name: table(kept) for name, table in TABLES.items()}
+            | {name: table(odd) for name, table in ODD_TABLES.items()})
     made["summary"] += made["odd_claim"]
     return MARKS.sub(lambda match: match[1] + made[match[2]] + match[3], path.read_text(encoding="utf-8"))
 
@@ -416,7 +445,8 @@ def agree(is_written):
     for path in differ:
         if is_written:
             path.write_text(made[path], encoding="utf-8")
-        print(f"{path.relative_to(TOP)}: {'written anew' if is_written else 'not that of the results in bench: bench/results.py --write'}")
+        print(f"{path.relative_to(TOP)}: "
+              f"{'written anew' if is_written else 'not that of the results in bench: bench/results.py --write'}")
     measured = ((path, read(path)) for path in (RESULTS, PIPELINES, ODD))
     trials = [path.name for path, found in measured if found and found["is_trial"]]
     for name in trials:
@@ -427,7 +457,9 @@ def agree(is_written):
 
 def memory_differs(kept):
     """Whether differences.tsv says another memory of bedtools' genomecov than was measured."""
-    theirs = spread([row["runs"]["bedtools"]["kilobytes"] for row in kept["workloads"] if row["command"] == "genomecov"], megabytes)
+    theirs = spread([row["runs"]["bedtools"]["kilobytes"] for row in kept["workloads"]
+                     if row["command"] == "genomecov"],
+                    megabytes)
     text = (TOP / "tests" / "differences" / "differences.tsv").read_text(encoding="utf-8")
     said = re.search(r"^genomecov\tmemory\t[^\t]*?([\d.]+ [GM]B)", text, re.MULTILINE)
     if said and said[1] == theirs:
@@ -439,7 +471,8 @@ def memory_differs(kept):
 def render(kept, folder):
     """Writes the tables and charts of some results into a folder."""
     folder.mkdir(parents=True, exist_ok=True)
-    tables, rows = (ODD_TABLES, {ODD_ROWS.name: odd_rows(kept)}) if "odd" in kept else (TABLES, {RESULT_ROWS.name: result_rows(kept)})
+    tables, rows = ((ODD_TABLES, {ODD_ROWS.name: odd_rows(kept)}) if "odd" in kept
+                    else (TABLES, {RESULT_ROWS.name: result_rows(kept)}))
     drawn = {} if "odd" in kept else charts(kept)
     for name, text in [*rows.items(), *drawn.items(), *((f"{name}.md", table(kept)) for name, table in tables.items())]:
         (folder / name).write_text(text, encoding="utf-8")

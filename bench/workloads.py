@@ -1,12 +1,14 @@
-"""The workloads of compare.py: commands over sorted records, which are written at random places, always the same ones."""
+"""The workloads of compare.py: commands over sorted records at random places, always the same ones."""
 
 import random
 import shutil
 import subprocess
 from dataclasses import dataclass
+from typing import NamedTuple
 
 # The lengths of the human chromosomes in GRCh38, in million bases.
-GRCH38 = [249, 242, 198, 190, 182, 171, 159, 145, 138, 134, 135, 133, 114, 107, 102, 90, 83, 80, 59, 64, 47, 51, 156, 57]
+GRCH38 = [249, 242, 198, 190, 182, 171, 159, 145, 138, 134, 135, 133, 114, 107, 102, 90, 83, 80, 59, 64, 47, 51,
+          156, 57]
 # The chromosomes in the order of their names' bytes, so that -g may be left out.
 CHROMOSOMES = sorted(zip((f"chr{name}" for name in [*range(1, 23), "X", "Y"]), GRCH38))
 NAMES = [name for name, _ in CHROMOSOMES]
@@ -44,9 +46,16 @@ class Touching(OneInput):
         write_records(folder / "records.bed", count, self.columns, 1, self.prefix)
 
 
+class Part(NamedTuple):
+    """A part of each chromosome, and where it begins."""
+
+    size: float = 1.0
+    begin: float = 0.0
+
+
 @dataclass
 class Features:
-    """Records at random places, of lengths from the shortest to below the longest, one for so many records asked for."""
+    """Records at random places, of lengths from the shortest to below the longest; one for so many asked for."""
 
     word: str
     each: int
@@ -55,7 +64,7 @@ class Features:
     columns: int
 
     def write(self, path, count, seed, part=1.0):
-        write_features(path, count // self.each, self, seed, part, 1 - part)
+        write_features(path, count // self.each, self, seed, Part(part, 1 - part))
 
 
 @dataclass
@@ -78,7 +87,8 @@ class Overlapping(OneInput):
         return "overlapping pairs of both strands"
 
     def write(self, folder, count):
-        lines = (f"chr1\t{at * 50}\t{at * 50 + 20}\tx\t1\t+\nchr1\t{at * 50 + 1}\t{at * 50 + 21}\tx\t1\t-\n" for at in range(count // 2))
+        lines = (f"chr1\t{at * 50}\t{at * 50 + 20}\tx\t1\t+\nchr1\t{at * 50 + 1}\t{at * 50 + 21}\tx\t1\t-\n"
+                 for at in range(count // 2))
         (folder / "records.bed").write_text("".join(lines), encoding="ascii")
 
 
@@ -116,7 +126,7 @@ class Alone(OneInput):
         if self.depth:
             bases = count // self.features.each * (self.features.shortest + self.features.longest) // 2
             part = min(part, bases / self.depth / (sum(LENGTHS) * 1_000_000))
-        write_features(folder / "records.bed", count // self.features.each, self.features, 1, part)
+        write_features(folder / "records.bed", count // self.features.each, self.features, 1, Part(part))
 
 
 @dataclass
@@ -292,7 +302,8 @@ WORKLOADS = [
     ),
     # bedtools goes over each base of the genome, so its instructions aren't counted: that would take half an hour.
     *(
-        Workload(["genomecov", *options], data, BOTH, None, None, part, data.depth > 0 and options == ["-bg"], counted=OURS)
+        Workload(["genomecov", *options], data, BOTH, None, None, part, data.depth > 0 and options == ["-bg"],
+                 counted=OURS)
         for data, part in ((Alone(READS, 30), 0.1), (Alone(PEAKS), 0.02))
         for options in (["-bg"], ["-bga"], ["-bg", "-strand", "+"])
         if data.features.columns > 3 or "-strand" not in options
@@ -305,11 +316,12 @@ WORKLOADS = [
         for how in ([], ["-soft"])
     ),
     # What a line costs that no record lies on or before.
-    Workload(["maskfasta"], Sequences("no", 1_000_000_000_000), (), None, None, 0.3, False, counted=OURS, output_option="-fo"),
+    Workload(["maskfasta"], Sequences("no", 1_000_000_000_000), (), None, None, 0.3, False, counted=OURS,
+             output_option="-fo"),
 ]
 
-# What is counted alone: of fewer records on whole chromosomes almost none share a base, so that these lie as close as those
-# that are timed.
+# What is counted alone: of fewer records on whole chromosomes almost none share a base, so that these lie as close as
+# those that are timed.
 COUNTED_WORKLOADS = [
     Workload([*command, *shape], Pair(*kinds, True), BOTH, None, None, None, False, counted=OURS)
     for kinds in ((READS, EXONS), (EXONS, PEAKS), (PEAKS, REPEATS))
@@ -332,7 +344,7 @@ def write_genome(path):
 
 
 def further_columns(numbers, columns, start, stop):
-    """The columns after the third: none, or a name, a score and a strand, and of twelve those of one block behind them."""
+    """The columns after the third: none, or a name, a score and a strand; of twelve also those of one block."""
     if columns == 3:
         return ""
     block = f"\t{start}\t{stop}\t0\t1\t{stop - start},\t0," if columns == 12 else ""
@@ -356,14 +368,14 @@ def write_records(path, count, columns, seed, prefix="chr"):
                 stop = start + numbers.randrange(1, mean)
 
 
-def write_features(path, count, features, seed, part=1.0, begin=0.0):
-    """Writes about `count` records at random places in a part of each chromosome, from another part of it on, in order."""
+def write_features(path, count, features, seed, part=Part()):
+    """Writes about `count` records at random places in a part of each chromosome, in order."""
     numbers = random.Random(seed)
     total = sum(LENGTHS)
     with open(path, "w", encoding="ascii") as records:
         for name, length in zip(NAMES, LENGTHS):
-            first = int(length * 1_000_000 * begin)
-            last = first + int(length * 1_000_000 * part) - features.longest
+            first = int(length * 1_000_000 * part.begin)
+            last = first + int(length * 1_000_000 * part.size) - features.longest
             for start in sorted(numbers.randrange(first, last) for _ in range(count * length // total)):
                 stop = start + numbers.randrange(features.shortest, features.longest)
                 records.write(f"{name}\t{start}\t{stop}{further_columns(numbers, features.columns, start, stop)}\n")
@@ -388,10 +400,11 @@ def write_alignments(path, count, seed):
 
 
 def write_sequences(folder, count, apart, seed):
-    """Writes 24 sequences, each of about `count` times as many bases as its chromosome has million, and records in order."""
+    """Writes 24 sequences, of about `count` bases for each million of a chromosome, and records in order."""
     numbers = random.Random(seed)
     text = "".join(numbers.choice("ACGTacgtN") for _ in range(60_000))
-    with open(folder / "records.bed", "w", encoding="ascii") as lines, open(folder / "second.bed", "w", encoding="ascii") as records:
+    sequences, features = folder / "records.bed", folder / "second.bed"
+    with open(sequences, "w", encoding="ascii") as lines, open(features, "w", encoding="ascii") as records:
         for name, length in zip(NAMES, LENGTHS):
             bases = count * length
             lines.write(f">{name}\n")

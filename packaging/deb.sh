@@ -19,7 +19,10 @@ doc=$folder/usr/share/doc/$name
 top=$(dirname "$0")/..
 
 # Another gzip writes other bytes.
-case $(gzip --version 2> /dev/null | head -n 1) in 'gzip 1.'*) ;; *) echo 'make deb needs the gzip of GNU' >&2; exit 1 ;; esac
+case $(gzip --version 2> /dev/null | head -n 1) in
+'gzip 1.'*) ;;
+*) echo 'make deb needs the gzip of GNU' >&2; exit 1 ;;
+esac
 command -v strip > /dev/null || { echo 'make deb needs strip, of binutils' >&2; exit 1; }
 strip --remove-section=.comment --remove-section=.note "$folder/usr/bin/$name" "$folder/usr/lib/dunekettle/drop-in"
 
@@ -39,9 +42,11 @@ gzip -9 -n "$doc/changelog" "$folder"/usr/share/man/man1/*.1
 find "$folder/usr" -type d -exec chmod 755 {} +
 
 # The C library is asked for in the version whose symbols the programs name.
-libc=$(cat "$folder/usr/bin/$name" "$folder/usr/lib/dunekettle/drop-in" | grep -a -o 'GLIBC_2\.[0-9]*' | sed 's/GLIBC_//' | sort -V | tail -n 1)
+libc=$(cat "$folder/usr/bin/$name" "$folder/usr/lib/dunekettle/drop-in" | grep -a -o 'GLIBC_2\.[0-9]*' |
+    sed 's/GLIBC_//' | sort -V | tail -n 1)
 # Kilobytes as dpkg counts them, each file in whole ones and each folder as one: what du says goes by the file system.
-size=$(find "$folder/usr" -printf '%y %s\n' | awk '{ sum += $1 == "f" ? int(($2 + 1023) / 1024) : 1 } END { print sum }')
+size=$(find "$folder/usr" -printf '%y %s\n' |
+    awk '{ sum += $1 == "f" ? int(($2 + 1023) / 1024) : 1 } END { print sum }')
 mkdir -p "$folder/DEBIAN"
 chmod 755 "$folder" "$folder/DEBIAN"
 sed -e "s/@VERSION@/$version/" -e "s/@ARCHITECTURE@/$(dpkg --print-architecture)/" -e "s/@LIBC@/$libc/" \

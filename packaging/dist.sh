@@ -13,12 +13,16 @@ unset GZIP TAR_OPTIONS
 
 folder=$(basename "$1")
 # Another gzip writes other bytes.
-case $(gzip --version 2> /dev/null | head -n 1) in 'gzip 1.'*) ;; *) echo 'make dist needs the gzip of GNU' >&2; exit 1 ;; esac
+case $(gzip --version 2> /dev/null | head -n 1) in
+'gzip 1.'*) ;;
+*) echo 'make dist needs the gzip of GNU' >&2; exit 1 ;;
+esac
 cd "$(dirname "$1")"
 (cd "$folder" && find . -type f ! -name SHA256SUMS -print0 | sort -z | xargs -0 sha256sum > ../SHA256SUMS)
 mv SHA256SUMS "$folder/"
 # A pipe would lose the status of tar.
-tar --sort=name --format=gnu --owner=0 --group=0 --numeric-owner --mode=u+rwX,go+rX,go-w --mtime="@$2" -cf "$folder.tar" "$folder"
+tar --sort=name --format=gnu --owner=0 --group=0 --numeric-owner --mode=u+rwX,go+rX,go-w --mtime="@$2" \
+    -cf "$folder.tar" "$folder"
 gzip -9 -n -f "$folder.tar"
 sha256sum "$folder.tar.gz" > "$folder.tar.gz.sha256"
 rm -rf "$folder"

@@ -6,9 +6,9 @@
 #     packaging/install.sh ROOT AT NAME PROGRAM DROP_IN DOC..
 #
 # ROOT is the folder of the installation now, AT where it will be, NAME the program's name in ROOT/bin, and DROP_IN the
-# program of the drop-in. Each file is written beside its place and then renamed: whoever runs it meanwhile has the old one or the new one, whole. All users can
-# read what is installed, whatever the umask. What is beside it already, as a link that another user has put there, is
-# removed, and never written to.
+# program of the drop-in. Each file is written beside its place and then renamed: whoever runs it meanwhile has the old
+# one or the new one, whole. All users can read what is installed, whatever the umask. What is beside it already, as a
+# link that another user has put there, is removed, and never written to.
 set -euC
 umask 022
 
@@ -23,7 +23,9 @@ case $name in
 *) is_name=1 ;;
 esac
 # Their manual pages have such names.
-case ${name#dunekettle-} in merge | complement | intersect | subtract | genomecov | bamtobed | maskfasta) is_name='' ;; esac
+case ${name#dunekettle-} in
+merge | complement | intersect | subtract | genomecov | bamtobed | maskfasta) is_name='' ;;
+esac
 if [ -z "$is_name" ]; then
     echo "NAME=$name is taken, or isn't one of letters, digits and ._+-" >&2
     exit 1
@@ -69,8 +71,8 @@ for file in mergeBed complementBed intersectBed subtractBed genomeCoverageBed ma
     link bedtools "$root/lib/dunekettle/bin/$file"
 done
 
-# The scripts call the program by its name there. They aren't below share/doc, which some systems leave out; a link leads
-# there from the pages.
+# The scripts call the program by its name there. They aren't below share/doc, which some systems leave out; a link
+# leads there from the pages.
 doc=$share/doc/$name
 if [ $# -gt 0 ]; then
     for folder in recipes shards; do
@@ -132,7 +134,8 @@ put 644 "$share/man/man1/$name.1" sed -E -e "s|^\.Nm bedtools\$|.Nm $name|" \
 put 644 "$share/man/man1/dunekettle.1" sed -E -e "s|dunekettle-bedtools|$name|g" -e "s|docs/([A-Z]+\.md)|$pages/\1|" \
     -e "s|^\.Pa lib/dunekettle/bin\$|.Pa $(as_replacement "$at")/lib/dunekettle/bin|" "$top/man/dunekettle.1"
 for page in "$top"/generated/man/*.1; do
-    put 644 "$share/man/man1/${page##*/}" sed -E -e "s|dunekettle-bedtools|$name|g" -e "s|docs/([A-Z]+\.md)|$pages/\1|" "$page"
+    put 644 "$share/man/man1/${page##*/}" sed -E -e "s|dunekettle-bedtools|$name|g" \
+        -e "s|docs/([A-Z]+\.md)|$pages/\1|" "$page"
 done
 
 # completions WORD INSTALLED: those of a program, where each shell looks for them

@@ -18,8 +18,8 @@ for word in "$name" dunekettle; do
     rm -f "$root/share/bash-completion/completions/$word" "$root/share/zsh/site-functions/_$word" \
         "$root/share/fish/vendor_completions.d/$word.fish"
 done
-for folder in share/bash-completion/completions share/bash-completion share/zsh/site-functions share/zsh share/fish/vendor_completions.d \
-    share/fish share/man/man1 share/man share/doc share lib bin; do
+for folder in share/bash-completion/completions share/bash-completion share/zsh/site-functions share/zsh \
+    share/fish/vendor_completions.d share/fish share/man/man1 share/man share/doc share lib bin; do
     [ ! -d "$root/$folder" ] || rmdir "$root/$folder" 2> /dev/null || true
 done
 exit

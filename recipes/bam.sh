@@ -1,8 +1,8 @@
 #!/bin/bash
 # shellcheck disable=SC2016,SC2154
 {
-# bam.sh BAM [[-split] [-splitD] [-cigar] | -ed | -tag XX | -bed12 [-color C]]: for bamtobed of BAM: its alignments as BED.
-# A mapped read without the tag, or whose tag isn't a whole number, is a fault.
+# bam.sh BAM [[-split] [-splitD] [-cigar] | -ed | -tag XX | -bed12 [-color C]]: for bamtobed of BAM: its alignments as
+# BED. A mapped read without the tag, or whose tag isn't a whole number, is a fault.
 here=$(readlink -f -- "${BASH_SOURCE[0]}") || exit 2
 # shellcheck source=functions.sh source-path=SCRIPTDIR
 . "${here%/*}/functions.sh" || exit 2

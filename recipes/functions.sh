@@ -1,8 +1,9 @@
 # shellcheck shell=bash
 # SPDX-License-Identifier: MIT
-# Functions of the recipes, which each script reads. BEDTOOLS names the program, if it isn't dunekettle-bedtools; GENOME a
-# genome file, if the chromosomes aren't in the order of their bytes. Each script is one group, which bash reads to its
-# end before it runs any of it: one that was cut ends with an error, and so does one that doesn't find this file whole.
+# Functions of the recipes, which each script reads. BEDTOOLS names the program, if it isn't dunekettle-bedtools; GENOME
+# a genome file, if the chromosomes aren't in the order of their bytes. Each script is one group, which bash reads to
+# its end before it runs any of it: one that was cut ends with an error, and so does one that doesn't find this file
+# whole.
 # shellcheck disable=SC2016,SC2034,SC2154 # `from` runs awk; options are variables that only some scripts read
 TAB=$(printf '\t')
 
@@ -39,8 +40,9 @@ work() {
     mkdir -m 700 -- "$folder" || { trap - EXIT; exit 1; }
 }
 
-# read_words KNOWN WORD..: the options of a command line, as variables opt_X; those in KNOWN that end with : have a value.
-# `files` has the files of -b, which are several only if KNOWN has .. A fraction is a number, as awk would compare a text.
+# read_words KNOWN WORD..: the options of a command line, as variables opt_X; those in KNOWN that end with : have a
+# value. `files` has the files of -b, which are several only if KNOWN has .. A fraction is a number, as awk would
+# compare a text.
 read_words() {
     local known=" $1 " word
     shift

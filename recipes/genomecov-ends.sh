@@ -1,7 +1,8 @@
 #!/bin/bash
 # shellcheck disable=SC2016,SC2154
 {
-# genomecov-ends.sh -i FILE -g GENOME -5 | -3 -bg | -bga: counts the first or the last base of each feature, by its strand.
+# genomecov-ends.sh -i FILE -g GENOME -5 | -3 -bg | -bga: counts the first or the last base of each feature, by its
+# strand.
 here=$(readlink -f -- "${BASH_SOURCE[0]}") || exit 2
 # shellcheck source=functions.sh source-path=SCRIPTDIR
 . "${here%/*}/functions.sh" || exit 2

@@ -1,7 +1,8 @@
 #!/bin/bash
 # shellcheck disable=SC2016,SC2154
 {
-# genomecov-scale.sh -i FILE -g GENOME -scale N -bg | -bga [-strand S]: numbers of 32 bits, by six digits, as in bedtools.
+# genomecov-scale.sh -i FILE -g GENOME -scale N -bg | -bga [-strand S]: numbers of 32 bits, by six digits, as in
+# bedtools.
 here=$(readlink -f -- "${BASH_SOURCE[0]}") || exit 2
 # shellcheck source=functions.sh source-path=SCRIPTDIR
 . "${here%/*}/functions.sh" || exit 2

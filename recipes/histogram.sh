@@ -1,7 +1,8 @@
 #!/bin/bash
 # shellcheck disable=SC2016,SC2154
 {
-# histogram.sh -i FILE -g GENOME [-max N] [-strand S]: the histogram of genomecov. Chromosomes without a record come last.
+# histogram.sh -i FILE -g GENOME [-max N] [-strand S]: the histogram of genomecov. Chromosomes without a record come
+# last.
 here=$(readlink -f -- "${BASH_SOURCE[0]}") || exit 2
 # shellcheck source=functions.sh source-path=SCRIPTDIR
 . "${here%/*}/functions.sh" || exit 2

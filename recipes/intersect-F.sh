@@ -1,8 +1,8 @@
 #!/bin/bash
 # shellcheck disable=SC2016,SC2154
 {
-# intersect-F.sh -a A -b B -F F [-f F] [-e] [-s] [-wo | -wa [-wb] | -u | -c | -v]: for -F, alone or beside -f, and for -e.
-# awk compares about sixteen digits, bedtools seven.
+# intersect-F.sh -a A -b B -F F [-f F] [-e] [-s] [-wo | -wa [-wb] | -u | -c | -v]: for -F, alone or beside -f, and for
+# -e. awk compares about sixteen digits, bedtools seven.
 here=$(readlink -f -- "${BASH_SOURCE[0]}") || exit 2
 # shellcheck source=functions.sh source-path=SCRIPTDIR
 . "${here%/*}/functions.sh" || exit 2

@@ -21,7 +21,10 @@ if [ -z "${opt_wa-}" ] || [ -z "${opt_wb-}" ]; then one_of -u -v -c -C; fi
 rule=(${opt_f:+-f "$opt_f"} ${opt_s:+-s})
 for name in u v c; do
     option=opt_$name
-    [ -z "${!option-}" ] || { cat -- "${files[@]}" | in_order | bt intersect -a "$opt_a" -b - "-$name" "${rule[@]}"; exit; }
+    if [ -n "${!option-}" ]; then
+        cat -- "${files[@]}" | in_order | bt intersect -a "$opt_a" -b - "-$name" "${rule[@]}"
+        exit
+    fi
 done
 twice "$opt_a"
 shape=(-wa -wb)

@@ -1,8 +1,8 @@
 #!/bin/bash
 # shellcheck disable=SC2016,SC2154
 {
-# intersect-loj.sh -a A -b B -loj | -wao [-f F] [-r] [-s]: also the records without a hit. Columns of a missing record of B
-# go by the number of its columns; twelve are taken for BED12. Give -plain if yours aren't that.
+# intersect-loj.sh -a A -b B -loj | -wao [-f F] [-r] [-s]: also the records without a hit. Columns of a missing record
+# of B go by the number of its columns; twelve are taken for BED12. Give -plain if yours aren't that.
 here=$(readlink -f -- "${BASH_SOURCE[0]}") || exit 2
 # shellcheck source=functions.sh source-path=SCRIPTDIR
 . "${here%/*}/functions.sh" || exit 2

@@ -1,8 +1,8 @@
 #!/bin/bash
 # shellcheck disable=SC2016,SC2154
 {
-# merge-c.sh -i FILE -c N,N.. -o OPERATION,.. [-d N] [-delim TEXT] [-prec N]: columns of merged features. Operations: count,
-# sum, mean, min, max, collapse, distinct, count_distinct; distinct values come in the order of their bytes.
+# merge-c.sh -i FILE -c N,N.. -o OPERATION,.. [-d N] [-delim TEXT] [-prec N]: columns of merged features. Operations:
+# count, sum, mean, min, max, collapse, distinct, count_distinct; distinct values come in the order of their bytes.
 here=$(readlink -f -- "${BASH_SOURCE[0]}") || exit 2
 # shellcheck source=functions.sh source-path=SCRIPTDIR
 . "${here%/*}/functions.sh" || exit 2
@@ -41,14 +41,18 @@ bt merge -i "$opt_i" ${opt_d:+-d "$opt_d"} | bt intersect -a - -b "$opt_i" -wa -
         return made }
     function line(  i, out) { if (!n) return
         out = run; for (i = 1; i <= wanted; i++) out = out "\t" value(i); print out }
-    function begin(  i) { n = 0; split("", seen); for (i = 1; i <= wanted; i++) { sum[i] = kinds[i] = 0; text[i] = "" } }
+    function begin(  i) {
+        n = 0; split("", seen)
+        for (i = 1; i <= wanted; i++) { sum[i] = kinds[i] = 0; text[i] = "" } }
     $1 FS $2 FS $3 != run { line(); run = $1 FS $2 FS $3; begin() }
     { n++; for (i = 1; i <= wanted; i++) {
         if (column[i] + 3 > NF) { print "merge-c.sh: no column " column[i] ": " $0 > "/dev/stderr"; failed = 1; exit 1 }
         x = $(column[i] + 3)
         if (is_number[i]) {
             if (x + 0 != x) { print "merge-c.sh: not a number: " x > "/dev/stderr"; failed = 1; exit 1 }
-            sum[i] += x; if (n == 1 || x + 0 < least[i]) least[i] = x + 0; if (n == 1 || x + 0 > most[i]) most[i] = x + 0 }
+            sum[i] += x
+            if (n == 1 || x + 0 < least[i]) least[i] = x + 0
+            if (n == 1 || x + 0 > most[i]) most[i] = x + 0 }
         else if (operation[i] ~ /distinct/) put(i, x)
         else if (operation[i] == "collapse") text[i] = text[i] (n > 1 ? delim : "") x } }
     END { if (!failed) line() }'

@@ -1,9 +1,9 @@
 #!/bin/bash
 { # bash reads all of it before it runs any, so that a script that was cut ends with an error.
 # SPDX-License-Identifier: MIT
-# names.sh FILE..: the names of the shards in order: those of genome files and of the indexes of FASTA files as they come,
-# and behind them those that only a NAME.bed.gz has, in the order of their bytes. A name that can't be that of a folder, or
-# in which tabix would read a region, as `a}:1-2`, ends it with status 1, and without a name.
+# names.sh FILE..: the names of the shards in order: those of genome files and of the indexes of FASTA files as they
+# come, and behind them those that only a NAME.bed.gz has, in the order of their bytes. A name that can't be that of a
+# folder, or in which tabix would read a region, as `a}:1-2`, ends it with status 1, and without a name.
 set -euo pipefail
 {
     for file; do

@@ -1,8 +1,9 @@
 #!/bin/bash
 { # bash reads all of it before it runs any, so that a script that was cut ends with an error.
 # SPDX-License-Identifier: MIT
-# shard.sh NAME WORD..: dunekettle-bedtools WORD.. over one shard, whose part of each input is put into the folder shards/NAME.
-# What is in the way of a part, as a link that another user has put there, is removed, and never written to.
+# shard.sh NAME WORD..: dunekettle-bedtools WORD.. over one shard, whose part of each input is put into the folder
+# shards/NAME. What is in the way of a part, as a link that another user has put there, is removed, and never written
+# to.
 set -euC -o pipefail
 fail() { echo "shard.sh: $1" >&2; exit 1; }
 export NAME=$1
@@ -10,7 +11,8 @@ case /$NAME/ in *//* | */./* | */../*) fail "no folder can be named so: $NAME" ;
 [[ ! $NAME =~ ^[^}]*}: ]] || fail "tabix reads a region in this name: $NAME"
 case " ${*:3} " in *\ -[ia]\ * | *\ -fi\ *) ;; *) fail 'no input is named' ;; esac
 mkdir -p "shards/$NAME"
-[ "$(readlink -f "shards/$NAME")" = "$(readlink -f shards)/$NAME" ] || fail "a link leads out of the folder shards: $NAME"
+[ "$(readlink -f "shards/$NAME")" = "$(readlink -f shards)/$NAME" ] ||
+    fail "a link leads out of the folder shards: $NAME"
 declare -A file_of=()
 words=() before=
 for word in "${@:2}"; do

@@ -28,8 +28,8 @@ VARIABLES = {
     "DUNEKETTLE_ALWAYS=1": "the drop-in never runs your bedtools",
     "DUNEKETTLE_STREAMS=1": "the drop-in takes standard input and pipes for sorted BED, without lines that bedtools"
                             " treats differently",
-    "DUNEKETTLE_ROOM=0": "the drop-in leaves all pipes and .gz files to your bedtools; a number instead of 0 is how many"
-                         " bytes of one it keeps to check it",
+    "DUNEKETTLE_ROOM=0": "the drop-in leaves all pipes and .gz files to your bedtools; a number instead of 0 is how"
+                         " many bytes of one it keeps to check it",
     "DUNEKETTLE_SMALL=0": "the drop-in checks inputs of any size; a number of bytes instead of 0 scales the size from"
                           " which on it checks some calls",
 }

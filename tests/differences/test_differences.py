@@ -120,7 +120,8 @@ class WithDropIn(BesideOriginal):
     def setUpClass(cls):
         super().setUpClass()
         place = cls.folder / "there"
-        subprocess.run([TOP / "packaging" / "install.sh", place, place, "dunekettle-bedtools", PROGRAM, DROP_IN], check=True)
+        subprocess.run([TOP / "packaging" / "install.sh", place, place, "dunekettle-bedtools", PROGRAM, DROP_IN],
+                       check=True)
         cls.drop_in = place / "lib" / "dunekettle" / "bin" / "bedtools"
         cls.told = cls.folder / "told.txt"
         cls.takers = {row.name: row.taker for row in differences()}

@@ -18,6 +18,7 @@ import sys
 import tempfile
 import time
 from pathlib import Path
+from typing import NamedTuple
 
 from front_data import make_all
 from front_tools import TOLD, Count, call, drop_in, environment, install, original
@@ -37,7 +38,8 @@ SHORT, RUNS = 3, 3
 TABLE = re.compile(r"(<!-- a script writes: pipelines -->\n).*?(<!-- it ends here -->)", re.DOTALL)
 GAIN = re.compile(r"(<!-- a script writes: gain -->\n).*?(<!-- it ends here -->)", re.DOTALL)
 # The file of all rows, its columns, and how many of those that gain and lose most are on the page.
-ROWS, COLUMNS, MOST = "front_pipelines.tsv", ("pipeline", "calls", "taken", "small", "as quick", "seconds without", "with"), 5
+ROWS, MOST = "front_pipelines.tsv", 5
+COLUMNS = ("pipeline", "calls", "taken", "small", "as quick", "seconds without", "with")
 # Why a call isn't taken although it could be: its files are below the size from which a look pays, or bedtools is as
 # quick with any.
 SMALL = re.compile("its inputs are small")
@@ -77,6 +79,31 @@ END_VERSIONS
 """
 
 
+class Row(NamedTuple):
+    """A script: its calls of the seven commands, how many of them Dunekettle took, how many it left as small and as
+    quick, and the seconds of the processor without and with the drop-in."""
+
+    name: str
+    calls: int
+    taken: int
+    small: int
+    quick: int
+    before: float
+    after: float
+
+
+class Tool(NamedTuple):
+    """A tool that runs pipelines: its words, and the files that it makes."""
+
+    name: str
+    words: list
+    made: list
+
+
+TOOLS = (Tool("snakemake", ["snakemake", "--cores", "1", "--quiet"], ["counts.bed", "gaps.bed"]),
+         Tool("make", ["make", "--silent"], ["hits.bed", "merged.bed"]))
+
+
 def processor():
     """The seconds of processor that children took so far."""
     used = resource.getrusage(resource.RUSAGE_CHILDREN)
@@ -91,9 +118,7 @@ def timed(script, folder, env):
 
 
 def run_script(script, folder, env, count):
-    """Runs a script in both ways: its row, which has its calls of the seven commands, how many of them Dunekettle took,
-    how many it left as small and as quick, and the seconds of the processor without and with the drop-in. And why it
-    didn't take the others."""
+    """Runs a script in both ways: its row, and why Dunekettle didn't take the other calls."""
     told, plains, fronteds = folder.parent / "told.txt", [], []
     while not plains or len(plains) < RUNS and plains[0] < SHORT:
         without, _, plain = timed(script, folder, environment())
@@ -109,13 +134,14 @@ def run_script(script, folder, env, count):
     calls = [(who, command, why) for who, command, why in lines if command in SEVEN]
     left = [(command, why) for who, command, why in calls if who != "Dunekettle"]
     small, quick = (sum(bool(reason.search(why)) for _, why in left) for reason in (SMALL, QUICK))
-    return (script.stem, len(calls), len(calls) - len(left), small, quick, plain, fronted), left
+    return Row(script.stem, len(calls), len(calls) - len(left), small, quick, plain, fronted), left
 
 
 def try_pipelines(folder, env, count, words):
     """Runs the scripts in both ways, and gives a row for each."""
     rows, reasons = [], {}
-    print(f"{'pipeline':<26}{'calls':>7}{'taken':>7}{'small':>7}{'quick':>7}{'without':>10}{'with':>8}   seconds of processor")
+    head = f"{'pipeline':<26}{'calls':>7}{'taken':>7}{'small':>7}{'quick':>7}{'without':>10}{'with':>8}"
+    print(f"{head}   seconds of processor")
     for script in sorted((HERE / "pipelines").glob("*.sh")):
         if words and not any(word in script.stem for word in words):
             continue
@@ -130,46 +156,52 @@ def try_pipelines(folder, env, count, words):
 
 
 def sums(rows):
-    """Of all rows the calls, those taken, small and as quick, and the seconds without and with."""
-    return [sum(row[at] for row in rows) for at in range(1, 7)]
+    """The row of all rows."""
+    return Row("all", *(sum(row[at] for row in rows) for at in range(1, len(Row._fields))))
 
 
 def summary(rows):
     """What all rows come to."""
-    calls, taken, small, quick, plain, fronted = sums(rows)
-    return (f"{len(rows)} pipelines: of {calls} calls of the seven commands Dunekettle took {taken} ({100 * taken / max(calls, 1):.0f} percent); "
-            f"{plain:.0f} seconds of CPU time became {fronted:.0f} ({100 * fronted / max(plain, 0.01):.0f} percent). "
-            f"Of the other {calls - taken}, {small} have inputs too small for a check to be worth it, {quick} are as quick in bedtools at any size, "
-            f"and {calls - taken - small - quick} have options or files that Dunekettle doesn't take")
+    total = sums(rows)
+    left = total.calls - total.taken
+    return (f"{len(rows)} pipelines: of {total.calls} calls of the seven commands Dunekettle took {total.taken} "
+            f"({100 * total.taken / max(total.calls, 1):.0f} percent); {total.before:.0f} seconds of CPU time became "
+            f"{total.after:.0f} ({100 * total.after / max(total.before, 0.01):.0f} percent). Of the other {left}, "
+            f"{total.small} have inputs too small for a check to be worth it, {total.quick} are as quick in bedtools "
+            f"at any size, and {left - total.small - total.quick} have options or files that Dunekettle doesn't take")
 
 
 def goals_missed(rows):
     """The goals that are missed, a line each."""
-    calls, taken, _, _, plain, fronted = sums(rows)
-    if taken < TAKEN * calls:
-        yield f"Dunekettle took {taken} of {calls} calls, fewer than {100 * TAKEN:.0f} percent"
-    if fronted > LEFT * plain:
-        yield f"{fronted:.1f} seconds of {plain:.1f} are more than {100 * LEFT:.0f} percent"
-    for name, _, _, _, _, before, after in rows:
-        if after > LONGER * before + SECONDS:
-            yield f"{name} takes {after:.2f} seconds of processor with the drop-in, {before:.2f} without"
+    total = sums(rows)
+    if total.taken < TAKEN * total.calls:
+        yield f"Dunekettle took {total.taken} of {total.calls} calls, fewer than {100 * TAKEN:.0f} percent"
+    if total.after > LEFT * total.before:
+        yield f"{total.after:.1f} seconds of {total.before:.1f} are more than {100 * LEFT:.0f} percent"
+    for row in rows:
+        if row.after > LONGER * row.before + SECONDS:
+            yield f"{row.name} takes {row.after:.2f} seconds of processor with the drop-in, {row.before:.2f} without"
 
 
 def write_table(rows):
-    """Puts all rows into front_pipelines.tsv, into bench/DROP_IN.md their sum and those that gain and lose most, into README the sum."""
+    """Puts all rows into front_pipelines.tsv, their sum and some into bench/DROP_IN.md, and the sum into README."""
     page = TOP / "bench" / "DROP_IN.md"
-    shown = [(name[3:].replace("-", " "), *map(str, counts), f"{before:.2f}", f"{after:.2f}") for name, *counts, before, after in rows]
+    shown = [(name[3:].replace("-", " "), *map(str, counts), f"{before:.2f}", f"{after:.2f}")
+             for name, *counts, before, after in rows]
     (HERE / ROWS).write_text("".join("\t".join(row) + "\n" for row in [COLUMNS, *shown]), encoding="utf-8")
     by_gain = sorted(shown, key=lambda row: float(row[-1]) - float(row[-2]))
     lines = [f"{summary(rows)}. [All rows](../tests/drop_in/{ROWS}); those that gain and lose most:", ""]
     lines += [f"| {' | '.join(row)} |" for row in (COLUMNS, ["---"] * len(COLUMNS), *by_gain[:MOST], *by_gain[-MOST:])]
     text = page.read_text(encoding="utf-8")
-    page.write_text(TABLE.sub(lambda found: found[1] + "\n".join(["", *lines, "", ""]) + found[2], text), encoding="utf-8")
+    page.write_text(TABLE.sub(lambda found: found[1] + "\n".join(["", *lines, "", ""]) + found[2], text),
+                    encoding="utf-8")
     first = TOP / "README.md"
-    calls, taken, _, _, before, after = sums(rows)
-    gain = (f"**With the drop-in**, [{len(rows)} pipelines](bench/DROP_IN.md#what-was-tried) took {after:.0f} seconds of CPU time instead of {before:.0f}, "
-            f"without a change. Dunekettle ran {taken} of their {calls} calls.\n")
-    first.write_text(GAIN.sub(lambda found: found[1] + gain + found[2], first.read_text(encoding="utf-8")), encoding="utf-8")
+    total = sums(rows)
+    gain = (f"**With the drop-in**, [{len(rows)} pipelines](bench/DROP_IN.md#what-was-tried) took {total.after:.0f} "
+            f"seconds of CPU time instead of {total.before:.0f}, without a change. "
+            f"Dunekettle ran {total.taken} of their {total.calls} calls.\n")
+    text = GAIN.sub(lambda found: found[1] + gain + found[2], first.read_text(encoding="utf-8"))
+    first.write_text(text, encoding="utf-8")
 
 
 def try_pybedtools(folder, env, count):
@@ -190,18 +222,18 @@ def try_pybedtools(folder, env, count):
     print(f"pybedtools: {len(theirs)} calls, {ours} of its command lines taken by us")
 
 
-def both_ways(name, words, made, folder, env, count):
+def both_ways(tool, folder, env, count):
     """Runs a tool in both ways, each in a copy of the folder, and compares the files that it makes."""
     gave = []
     for way, env_of_it in (("without", environment()), ("with", env)):
-        there = folder.parent / f"{name}-{way}"
+        there = folder.parent / f"{tool.name}-{way}"
         shutil.copytree(folder, there)
-        status = call(words, there, env_of_it)[2]
-        gave.append((status, [(there / file).read_bytes() if (there / file).exists() else None for file in made]))
+        status = call(tool.words, there, env_of_it)[2]
+        gave.append((status, [(there / file).read_bytes() if (there / file).exists() else None for file in tool.made]))
         if way == "without":
-            count.expect(f"{name} ends well", 0, status)
-    count.expect(name, gave[0], gave[1])
-    return folder.parent / f"{name}-with"
+            count.expect(f"{tool.name} ends well", 0, status)
+    count.expect(tool.name, gave[0], gave[1])
+    return folder.parent / f"{tool.name}-with"
 
 
 def try_tools(folder, env, count):
@@ -209,15 +241,15 @@ def try_tools(folder, env, count):
     (folder / "Snakefile").write_text(SNAKEFILE, encoding="utf-8")
     (folder / "Makefile").write_text(MAKEFILE, encoding="utf-8")
     (folder / "module.sh").write_text(MODULE, encoding="utf-8")
-    for tool, words, made in (("snakemake", ["snakemake", "--cores", "1", "--quiet"], ["counts.bed", "gaps.bed"]),
-                              ("make", ["make", "--silent"], ["hits.bed", "merged.bed"])):
-        if shutil.which(tool):
-            both_ways(tool, words, made, folder, env, count)
+    for tool in TOOLS:
+        if shutil.which(tool.name):
+            both_ways(tool, folder, env, count)
         else:
-            print(f"no {tool}: passed over")
-    there = both_ways("module", ["bash", "module.sh"], ["test.bed"], folder, env, count)
+            print(f"no {tool.name}: passed over")
+    there = both_ways(Tool("module", ["bash", "module.sh"], ["test.bed"]), folder, env, count)
     versions = (there / "versions.yml").read_text(encoding="utf-8")
-    count.expect("the module's versions", True, bool(re.fullmatch(r'"BEDTOOLS_MERGE":\n    bedtools: 2\.30\.0\n', versions)))
+    count.expect("the module's versions", True,
+                 bool(re.fullmatch(r'"BEDTOOLS_MERGE":\n    bedtools: 2\.30\.0\n', versions)))
 
 
 def main():

@@ -6,8 +6,8 @@
 The files are made here: 800,000 reads as BED, SAM and BAM on a genome of 360,000,000 bases, exons, transcripts and
 sequences, and small ones. For each call it shows who took it and the seconds of both, of the processor and by the
 clock, the less of two runs, and compares the bytes. With words it tries the calls that have one of them. Without
-words --write puts all rows into front_costs.tsv and some into bench/DROP_IN.md. Ends with 1 if bytes differ, or if a call
-that Dunekettle takes needs over a tenth more of the processor than bedtools.
+words --write puts all rows into front_costs.tsv and some into bench/DROP_IN.md. Ends with 1 if bytes differ, or if a
+call that Dunekettle takes needs over a tenth more of the processor than bedtools.
 """
 
 import hashlib
@@ -19,6 +19,7 @@ import sys
 import tempfile
 import time
 from pathlib import Path
+from typing import NamedTuple
 
 from front_tools import TOLD, TOP, drop_in, environment, install, original
 
@@ -100,10 +101,12 @@ def make_reads(folder, draw):
     sam, reads = [f"@SQ\tSN:{name}\tLN:{size}\n" for name, size in SIZES.items()], {}
     for name, size in SIZES.items():
         starts = sorted(draw.randrange(size - 6000) for _ in range(READS))
-        reads[name] = [(name, start, start + draw.randrange(50, 400), f"r{n}", draw.randrange(60), draw.choice("+-")) for n, start in enumerate(starts)]
+        reads[name] = [(name, start, start + draw.randrange(50, 400), f"r{n}", draw.randrange(60), draw.choice("+-"))
+                       for n, start in enumerate(starts)]
         for _, start, _, read, quality, strand in reads[name]:
             cigar = draw.choice(["75M"] * 6 + ["30M2D45M", "40M1200N35M", "20M4I51M", "5S70M"])
-            sam.append(f"{read}\t{16 if strand == '-' else 0}\t{name}\t{start + 1}\t{quality}\t{cigar}\t*\t0\t0\t*\t*\n")
+            flag = 16 if strand == "-" else 0
+            sam.append(f"{read}\t{flag}\t{name}\t{start + 1}\t{quality}\t{cigar}\t*\t0\t0\t*\t*\n")
     write(folder, "reads.bed", (row for name in sorted(SIZES) for row in reads[name]))
     write(folder, "natural.bed", (row for name in SIZES for row in reads[name]))
     Path(folder, "reads.sam").write_text("".join(sam), encoding="utf-8")
@@ -132,7 +135,8 @@ def make_files(folder, draw):
     line = "".join(draw.choices("ACGT", k=60)) + "\n"
     with Path(folder, "long.fa").open("w", encoding="utf-8") as file:
         file.writelines(f">{name}\n{line * 416_666}" for name in "abcd")
-    write(folder, "repeats.bed", ((name, start, start + 300) for name in "abcd" for start in range(0, 24_000_000, 2000)))
+    write(folder, "repeats.bed",
+          ((name, start, start + 300) for name in "abcd" for start in range(0, 24_000_000, 2000)))
 
 
 def script_of(line, program):
@@ -141,27 +145,40 @@ def script_of(line, program):
     return f"{first}{bar}{program} {rest}"
 
 
-def run(line, program, folder, env):
+class Run(NamedTuple):
     """The seconds of the processor and by the clock of a call, what it wrote, and who took it."""
+
+    used: float
+    clock: float
+    wrote: tuple
+    taker: str
+
+
+def run(line, program, folder, env):
+    """One run of a call."""
     before, begun = resource.getrusage(resource.RUSAGE_CHILDREN), time.monotonic()
     with Path(folder, "out").open("wb") as out, Path(folder, "said").open("wb") as said:
-        status = subprocess.run(["bash", "-c", script_of(line, program)], cwd=folder, env=env, stdout=out, stderr=said, check=False).returncode
+        status = subprocess.run(["bash", "-c", script_of(line, program)], cwd=folder, env=env, stdout=out, stderr=said,
+                                check=False).returncode
     clock, after = time.monotonic() - begun, resource.getrusage(resource.RUSAGE_CHILDREN)
     used = after.ru_utime + after.ru_stime - before.ru_utime - before.ru_stime
     file = Path(folder, "masked.fa" if "maskfasta" in line else "out")
     taker = TOLD.findall(Path(folder, "said").read_text(encoding="utf-8", errors="replace"))
-    return used, clock, (status, hashlib.sha256(file.read_bytes()).hexdigest()), taker[0][0] if taker else ""
+    wrote = status, hashlib.sha256(file.read_bytes()).hexdigest()
+    return Run(used, clock, wrote, taker[0][0] if taker else "")
 
 
 def try_call(line, theirs, ours, folder):
     """A row of the table, and whether it is as it has to be."""
     plain, fronted = environment(), environment(ours, DUNEKETTLE_TELL="1")
-    tries = [[run(line, program, folder, env) for _ in range(2)] for program, env in ((theirs, plain), (ours / "bedtools", fronted))]
-    least = [[min(one[at] for one in runs) for at in (0, 1)] for runs in tries]
-    is_same = len({one[2] for runs in tries for one in runs}) == 1
-    taker = "Dunekettle" if tries[1][0][3] == "Dunekettle" else "bedtools"
-    is_cheap = taker == "bedtools" or least[1][0] <= least[0][0] * 1.1 + 0.005
-    row = [line, taker, *(f"{least[who][which]:.2f}" for which in (0, 1) for who in (0, 1))]
+    alone = [run(line, theirs, folder, plain) for _ in range(2)]
+    with_it = [run(line, ours / "bedtools", folder, fronted) for _ in range(2)]
+    used = [min(each.used for each in runs) for runs in (alone, with_it)]
+    clock = [min(each.clock for each in runs) for runs in (alone, with_it)]
+    is_same = len({each.wrote for each in alone + with_it}) == 1
+    taker = "Dunekettle" if with_it[0].taker == "Dunekettle" else "bedtools"
+    is_cheap = taker == "bedtools" or used[1] <= used[0] * 1.1 + 0.005
+    row = [line, taker, *(f"{seconds:.2f}" for seconds in used + clock)]
     print(as_row(row) + ("" if is_same else " BYTES DIFFER") + ("" if is_cheap else " DEARER"), flush=True)
     return row, is_same and is_cheap
 
@@ -176,9 +193,11 @@ def write_table(rows):
     """Puts all rows into front_costs.tsv, and those of SHOWN into bench/DROP_IN.md."""
     ROWS.write_text("".join("\t".join(row) + "\n" for row in [COLUMNS, *rows]), encoding="utf-8")
     page = TOP / "bench" / "DROP_IN.md"
-    lines = [f"| {' | '.join(COLUMNS)} |", f"|{'---|' * len(COLUMNS)}", *(as_row(row) for row in rows if row[0] in SHOWN)]
+    lines = [f"| {' | '.join(COLUMNS)} |", f"|{'---|' * len(COLUMNS)}",
+             *(as_row(row) for row in rows if row[0] in SHOWN)]
     text = page.read_text(encoding="utf-8")
-    page.write_text(TABLE.sub(lambda found: found[1] + "".join(f"{line}\n" for line in lines) + found[2], text), encoding="utf-8")
+    page.write_text(TABLE.sub(lambda found: found[1] + "".join(f"{line}\n" for line in lines) + found[2], text),
+                    encoding="utf-8")
 
 
 def main():

@@ -13,7 +13,8 @@ from pathlib import Path
 from front_tools import call, drop_in, looking, original
 
 # What the drop-in calls. What a script of the trial calls itself has a whole path.
-HELPERS = ("awk", "cat", "cmp", "cut", "df", "grep", "gzip", "head", "mktemp", "od", "rm", "samtools", "sleep", "sort", "tail", "tr", "uniq", "wc")
+HELPERS = ("awk", "cat", "cmp", "cut", "df", "grep", "gzip", "head", "mktemp", "od", "rm", "samtools", "sleep", "sort",
+           "tail", "tr", "uniq", "wc")
 FAKE = """#!/bin/sh
 call=1
 until mkdir "$CALLS/TOOL $call" 2> /dev/null; do call=$((call + 1)); done
@@ -24,18 +25,31 @@ kill -s KILL $$
 """
 # The calls, each a script of bash. Sizes are such that half of what a tool writes is never a whole answer.
 SCRIPTS = (
-    "bedtools merge -i a.bed", "bedtools merge -i late_long.bed", "bedtools merge -i natural.bed", "bedtools complement -i a.bed -g g.txt", "bedtools complement -i past.bed -g g.txt",
-    "bedtools intersect -a a.bed -b b.bed", "bedtools intersect -a a.bed -b twice.bed", "bedtools intersect -a natural.bed -b natural.bed", "bedtools intersect -wo -a natural.bed -b twice_natural.bed",
-    "bedtools intersect -wa -wb -a wide.bed -b mixed.bed", "bedtools intersect -wo -f 0.01 -a natural_wide.bed -b natural_mixed.bed", "bedtools intersect -wb -a <(CAT wide.bed) -b mixed.bed",
-    "bedtools intersect -s -u -a a.bed -b a.bed", "bedtools intersect -f 0.25 -u -a a.bed -b b.bed", "bedtools intersect -f 0.123456 -r -u -a late_wide.bed -b late_wide.bed",
-    "bedtools subtract -a a.bed.gz -b b.bed.gz", "bedtools merge -i many.bed.gz", "bedtools genomecov -i natural.bed -g natural.txt", "bedtools genomecov -bg -i natural.bed -g g.txt",
-    "bedtools genomecov -bga -strand + -i natural.bed -g g.txt", "bedtools genomecov -d -i a.bed -g g.txt", "bedtools genomecov -dz -i a.bed -g g.txt", "bedtools genomecov -bg -scale 0.3 -i a.bed -g g.txt",
-    "bedtools genomecov -bg -split -i blocks.bed -g g.txt", "bedtools genomecov -bga -split -i blocks.bed -g g.txt", "bedtools genomecov -bg -i deep.bed -g g.txt",
-    "bedtools genomecov -bga -split -ibam r.bam", "bedtools genomecov -ibam r.bam", "bedtools bamtobed -i r.sam", "bedtools bamtobed -split -i odd.sam", "bedtools bamtobed -split -i r.bam",
-    "CAT a.bed | bedtools merge", "bedtools intersect -u -a <(CAT a.bed) -b <(CAT b.bed)", "bedtools genomecov -bga -i <(CAT natural.bed) -g <(CAT g.txt)",
-    "CAT a.bed | DUNEKETTLE_ROOM=500 bedtools merge", "DUNEKETTLE_ROOM=500 bedtools intersect -sorted -u -a <(CAT a.bed) -b <(CAT b.bed)",
-    "DUNEKETTLE_ROOM=500 bedtools intersect -sorted -c -a <(CAT a.bed) -b <(SLEEP 0.3; CAT few.bed)", "CAT a.bed.gz | bedtools merge -i -",
-    *(f"RM -f {p} {q}; MKFIFO {p} {q}; TIMEOUT 20 BASH -c 'CAT a.bed > {p}; CAT b.bed > {q}' > /dev/null 2>&1 & {room}bedtools intersect -sorted -u -a {p} -b {q}"
+    "bedtools merge -i a.bed", "bedtools merge -i late_long.bed", "bedtools merge -i natural.bed",
+    "bedtools complement -i a.bed -g g.txt", "bedtools complement -i past.bed -g g.txt",
+    "bedtools intersect -a a.bed -b b.bed", "bedtools intersect -a a.bed -b twice.bed",
+    "bedtools intersect -a natural.bed -b natural.bed", "bedtools intersect -wo -a natural.bed -b twice_natural.bed",
+    "bedtools intersect -wa -wb -a wide.bed -b mixed.bed",
+    "bedtools intersect -wo -f 0.01 -a natural_wide.bed -b natural_mixed.bed",
+    "bedtools intersect -wb -a <(CAT wide.bed) -b mixed.bed",
+    "bedtools intersect -s -u -a a.bed -b a.bed", "bedtools intersect -f 0.25 -u -a a.bed -b b.bed",
+    "bedtools intersect -f 0.123456 -r -u -a late_wide.bed -b late_wide.bed",
+    "bedtools subtract -a a.bed.gz -b b.bed.gz", "bedtools merge -i many.bed.gz",
+    "bedtools genomecov -i natural.bed -g natural.txt", "bedtools genomecov -bg -i natural.bed -g g.txt",
+    "bedtools genomecov -bga -strand + -i natural.bed -g g.txt", "bedtools genomecov -d -i a.bed -g g.txt",
+    "bedtools genomecov -dz -i a.bed -g g.txt", "bedtools genomecov -bg -scale 0.3 -i a.bed -g g.txt",
+    "bedtools genomecov -bg -split -i blocks.bed -g g.txt", "bedtools genomecov -bga -split -i blocks.bed -g g.txt",
+    "bedtools genomecov -bg -i deep.bed -g g.txt",
+    "bedtools genomecov -bga -split -ibam r.bam", "bedtools genomecov -ibam r.bam", "bedtools bamtobed -i r.sam",
+    "bedtools bamtobed -split -i odd.sam", "bedtools bamtobed -split -i r.bam",
+    "CAT a.bed | bedtools merge", "bedtools intersect -u -a <(CAT a.bed) -b <(CAT b.bed)",
+    "bedtools genomecov -bga -i <(CAT natural.bed) -g <(CAT g.txt)",
+    "CAT a.bed | DUNEKETTLE_ROOM=500 bedtools merge",
+    "DUNEKETTLE_ROOM=500 bedtools intersect -sorted -u -a <(CAT a.bed) -b <(CAT b.bed)",
+    "DUNEKETTLE_ROOM=500 bedtools intersect -sorted -c -a <(CAT a.bed) -b <(SLEEP 0.3; CAT few.bed)",
+    "CAT a.bed.gz | bedtools merge -i -",
+    *(f"RM -f {p} {q}; MKFIFO {p} {q}; TIMEOUT 20 BASH -c 'CAT a.bed > {p}; CAT b.bed > {q}' > /dev/null 2>&1 & "
+      f"{room}bedtools intersect -sorted -u -a {p} -b {q}"
       for room, p, q in (("", "p", "q"), ("DUNEKETTLE_ROOM=500 ", "r", "s"))),
 )
 NAMES = ("chr1", "chr10", "chr2", "chr3", "chrX")
@@ -50,7 +64,9 @@ def rows(names, count, step, length, more="\tr\t0\t+"):
 def reads(names, cigars):
     """SAM text."""
     lines = ["@HD\tVN:1.6\tSO:coordinate\n", *(f"@SQ\tSN:{name}\tLN:4100000\n" for name in names)]
-    return lines + [f"r\t{16 * (n % 2)}\t{name}\t{90 * n + 1}\t9\t{cigars[n % len(cigars)]}\t*\t0\t0\t*\t*\n" for name in names for n in range(60)]
+    return (lines
+            + [f"r\t{16 * (n % 2)}\t{name}\t{90 * n + 1}\t9\t{cigars[n % len(cigars)]}\t*\t0\t0\t*\t*\n"
+               for name in names for n in range(60)])
 
 
 def fill(folder):
@@ -58,13 +74,21 @@ def fill(folder):
     features = rows(NAMES, 60, 90, 40)
     wide, mixed = rows(("c",), 60, 30_000, 40_000), rows(("c",), 200, 9000, 6000, "\tm\t0\t-")
     files = {
-        "wide.bed": wide, "mixed.bed": mixed, "natural_wide.bed": [line.replace("c", name, 1) for name in NATURAL for line in wide], "natural_mixed.bed": [line.replace("c", name, 1) for name in NATURAL for line in mixed],
-        "a.bed": features, "b.bed": rows(NAMES, 50, 95, 30, "\tr\t0\t-"), "few.bed": features[:5], "natural.bed": rows(NATURAL, 60, 90, 40, "\tr\t0\t-")[:-1] + ["chrX\t9000\t9040\tr\t0\t+\n"],
-        "late_long.bed": [*features, f"chrX\t9000\t9040\t{1100 * 'n'}\n"], "past.bed": [*features, "chrX\t9000\t99999999\n"], "twice.bed": [*features, features[-1]],
-        "twice_natural.bed": [*rows(NATURAL, 60, 90, 40), "chrX\t5310\t5350\tr\t0\t+\n"], "late_wide.bed": [*features, "chrX\t9000\t8000000\tr\t0\t+\n"], "many.bed": rows(NAMES, 900, 90, 40),
-        "blocks.bed": [f"{name}\t{90 * n}\t{90 * n + 60}\tt\t0\t+\t0\t0\t0\t2\t9,20,\t0,40,\n" for name in NATURAL for n in range(60)],
-        "deep.bed": 1_000_001 * ["chr2\t5\t9\n"], "g.txt": [f"{name}\t20000\n" for name in NAMES], "natural.txt": [f"{name}\t20000\n" for name in NATURAL],
-        "r.sam": reads(NATURAL, ("30M", "9M2D9M", "9M30N9M")), "odd.sam": [*reads(NATURAL, ("30M", "9M30N9M")), "r\t0\tchrX\t9000\t9\t2M3N2N3M\t*\t0\t0\t*\t*\n"],
+        "wide.bed": wide, "mixed.bed": mixed,
+        "natural_wide.bed": [line.replace("c", name, 1) for name in NATURAL for line in wide],
+        "natural_mixed.bed": [line.replace("c", name, 1) for name in NATURAL for line in mixed],
+        "a.bed": features, "b.bed": rows(NAMES, 50, 95, 30, "\tr\t0\t-"), "few.bed": features[:5],
+        "natural.bed": rows(NATURAL, 60, 90, 40, "\tr\t0\t-")[:-1] + ["chrX\t9000\t9040\tr\t0\t+\n"],
+        "late_long.bed": [*features, f"chrX\t9000\t9040\t{1100 * 'n'}\n"],
+        "past.bed": [*features, "chrX\t9000\t99999999\n"], "twice.bed": [*features, features[-1]],
+        "twice_natural.bed": [*rows(NATURAL, 60, 90, 40), "chrX\t5310\t5350\tr\t0\t+\n"],
+        "late_wide.bed": [*features, "chrX\t9000\t8000000\tr\t0\t+\n"], "many.bed": rows(NAMES, 900, 90, 40),
+        "blocks.bed": [f"{name}\t{90 * n}\t{90 * n + 60}\tt\t0\t+\t0\t0\t0\t2\t9,20,\t0,40,\n" for name in NATURAL
+                       for n in range(60)],
+        "deep.bed": 1_000_001 * ["chr2\t5\t9\n"], "g.txt": [f"{name}\t20000\n" for name in NAMES],
+        "natural.txt": [f"{name}\t20000\n" for name in NATURAL],
+        "r.sam": reads(NATURAL, ("30M", "9M2D9M", "9M30N9M")),
+        "odd.sam": [*reads(NATURAL, ("30M", "9M30N9M")), "r\t0\tchrX\t9000\t9\t2M3N2N3M\t*\t0\t0\t*\t*\n"],
     }
     for name, lines in files.items():
         (folder / name).write_text("".join(lines), encoding="utf-8")
@@ -88,10 +112,12 @@ def is_lost(wanted, found):
 
 
 def fakes(folder):
-    """A folder with all helper tools, each of which dies at the call that DIES says, and writes its calls into CALLS."""
+    """A folder with all helper tools, each of which dies at the call that DIES says. CALLS gets their calls."""
     folder.mkdir()
     for tool in filter(shutil.which, HELPERS):
-        text = FAKE.replace("TOOL", tool).replace("REAL", shutil.which(tool)).replace("HEAD", shutil.which("head")).replace("WC", shutil.which("wc"))
+        text = FAKE.replace("TOOL", tool)
+        for word, real in (("REAL", tool), ("HEAD", "head"), ("WC", "wc")):
+            text = text.replace(word, shutil.which(real))
         (folder / tool).write_text(text.replace("mkdir", shutil.which("mkdir")), encoding="utf-8")
         (folder / tool).chmod(0o755)
     return folder
@@ -105,7 +131,8 @@ def with_death(dies, script, place, top):
         temporary.mkdir()
         env = looking(drop_in(place), top / "fakes", DIES=dies, CALLS=str(calls), TMPDIR=str(temporary))
         found = answer(script, top / "data", env)
-        return found, sorted(file.name for file in calls.iterdir() if file.is_dir()), [file.name for file in temporary.iterdir()]
+        return (found, sorted(file.name for file in calls.iterdir() if file.is_dir()),
+                [file.name for file in temporary.iterdir()])
 
 
 def try_deaths(script, place, top):
@@ -116,7 +143,8 @@ def try_deaths(script, place, top):
     for dies in calls:
         found, _, left = with_death(dies, script, place, top)
         if is_lost(wanted, found) or left and dies.split()[0] not in ("rm", "mktemp"):
-            wrong.append(f"{dies} dies: status {found[1]}, {len(found[0])} bytes for {len(wanted[0])}, {found[2]!r:.200}, left {left}")
+            wrong.append(f"{dies} dies: status {found[1]}, {len(found[0])} bytes for {len(wanted[0])}, "
+                         f"{found[2]!r:.200}, left {left}")
     return script, calls, wrong
 
 
@@ -153,13 +181,16 @@ def try_full_folders(place, folder, count):
     (top / "df").write_text("#!/bin/sh\nprintf 'a\\na 1 1 99999999 1 a\\n'\n", encoding="utf-8")
     (top / "df").chmod(0o755)
     for size in (4, 8, 12, 16, 20, 24, 32, 40, 64, 128):
-        if subprocess.run(["mount", "-t", "tmpfs", "-o", f"size={size}k", "none", full], stderr=subprocess.DEVNULL, check=False).returncode:
+        mount = ["mount", "-t", "tmpfs", "-o", f"size={size}k", "none", full]
+        if subprocess.run(mount, stderr=subprocess.DEVNULL, check=False).returncode:
             print("no mount: a TMPDIR that gets full wasn't tried")
             return
         try:
             for script, answered in wanted.items():
                 found = answer(script, top / "data", looking(drop_in(place), top, TMPDIR=str(full)))
-                count.expect(f"{size} kB of room: {script}", (False, []), (is_lost(answered, found) and (len(found[0]), found[1]), [file.name for file in full.iterdir()]))
+                count.expect(f"{size} kB of room: {script}", (False, []),
+                             (is_lost(answered, found) and (len(found[0]), found[1]),
+                              [file.name for file in full.iterdir()]))
         finally:
             subprocess.run(["umount", "-l", full], check=True)
 

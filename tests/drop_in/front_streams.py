@@ -19,73 +19,99 @@ import sys
 import tempfile
 import time
 from pathlib import Path
+from typing import NamedTuple
 
 from front_others import try_others
-from front_tools import TOLD, Count, call, drop_in, install, is_busy, looking, original
+from front_tools import TOLD, Count, call, drop_in, fake, install, is_busy, looking, original
 
 SHELLS = ("dash", "bash --posix", "busybox sh")
 # Each stream is longer than a pipe holds.
 ROWS = "".join(f"chr1\t{50 * n}\t{50 * n + 20}\tr{n}\t0\t{'+-'[n % 2]}\n" for n in range(8000))
 ENDLESS = "awk 'BEGIN { for (;;) printf \"chr1\\t%d\\t%d\\n\", 50 * n, 50 * n++ + 20 }'"
 SCRIPTS = [
-    "PROGRAM merge -i a.bed", "PROGRAM merge < a.bed", "cat a.bed | PROGRAM merge -i stdin", "PROGRAM intersect -u -a <(cat a.bed) -b <(tail -n 999 a.bed)",
-    "PROGRAM genomecov -i <(cat a.bed) -g <(cat g.txt)", "PROGRAM complement -i a.bed -g <(cat g.txt)", "(head -n 9 a.bed; sleep 0.3; tail -n +10 a.bed) | PROGRAM merge",
-    "{ read -r first; PROGRAM merge -i -; } < a.bed", "{ read -r first; PROGRAM merge -i /dev/stdin; } < a.bed", "PROGRAM merge -i - < /dev/null", "PROGRAM subtract -a <(cat none) -b a.bed",
-    "exec 3< a.bed 4< a.bed 5< a.bed 6< a.bed 7< a.bed 8< a.bed 9< a.bed; cat a.bed | PROGRAM merge", "exec 3< a.bed 4< g.txt; PROGRAM complement -i /dev/fd/3 -g /dev/fd/4",
-    "exec 3< a.bed 4< a.bed; PROGRAM genomecov -bga -i - -g g.txt < a.bed", "gzip -c a.bed > z.gz; PROGRAM subtract -a z.gz -b <(head -n 5 a.bed)", "PROGRAM merge -i - <&-",
-    f"{ENDLESS} | PROGRAM intersect -sorted -u -a - -b a.bed | head -n 2", f"PROGRAM intersect -sorted -u -a <({ENDLESS}) -b <({ENDLESS}) | head -n 2",
-    "head -n 5 a.bed | PROGRAM intersect -sorted -c -a a.bed -b -", "PROGRAM intersect -wa -wb -a <(cat wide.bed) -b <(cat a.bed)", "cat wide.bed | PROGRAM intersect -wo -a a.bed -b -",
-    "gzip -c wide.bed > z.gz; PROGRAM intersect -wb -a z.gz -b wide.bed", "PROGRAM intersect -wa -wb -a wide.bed -b a.bed | head -n 3",
+    "PROGRAM merge -i a.bed", "PROGRAM merge < a.bed", "cat a.bed | PROGRAM merge -i stdin",
+    "PROGRAM intersect -u -a <(cat a.bed) -b <(tail -n 999 a.bed)",
+    "PROGRAM genomecov -i <(cat a.bed) -g <(cat g.txt)", "PROGRAM complement -i a.bed -g <(cat g.txt)",
+    "(head -n 9 a.bed; sleep 0.3; tail -n +10 a.bed) | PROGRAM merge",
+    "{ read -r first; PROGRAM merge -i -; } < a.bed", "{ read -r first; PROGRAM merge -i /dev/stdin; } < a.bed",
+    "PROGRAM merge -i - < /dev/null", "PROGRAM subtract -a <(cat none) -b a.bed",
+    "exec 3< a.bed 4< a.bed 5< a.bed 6< a.bed 7< a.bed 8< a.bed 9< a.bed; cat a.bed | PROGRAM merge",
+    "exec 3< a.bed 4< g.txt; PROGRAM complement -i /dev/fd/3 -g /dev/fd/4",
+    "exec 3< a.bed 4< a.bed; PROGRAM genomecov -bga -i - -g g.txt < a.bed",
+    "gzip -c a.bed > z.gz; PROGRAM subtract -a z.gz -b <(head -n 5 a.bed)", "PROGRAM merge -i - <&-",
+    f"{ENDLESS} | PROGRAM intersect -sorted -u -a - -b a.bed | head -n 2",
+    f"PROGRAM intersect -sorted -u -a <({ENDLESS}) -b <({ENDLESS}) | head -n 2",
+    "head -n 5 a.bed | PROGRAM intersect -sorted -c -a a.bed -b -",
+    "PROGRAM intersect -wa -wb -a <(cat wide.bed) -b <(cat a.bed)",
+    "cat wide.bed | PROGRAM intersect -wo -a a.bed -b -",
+    "gzip -c wide.bed > z.gz; PROGRAM intersect -wb -a z.gz -b wide.bed",
+    "PROGRAM intersect -wa -wb -a wide.bed -b a.bed | head -n 3",
 ]
-
-
 # Two named pipes, or streams of them, of one producer, which opens and writes them one by one or side by side, and how
 # much of a stream each way needs room for. bedtools alone waits for ever, unless the first is that of -g.
 TWINS = [
-    ("tee q < a.bed > p", "intersect -sorted -u -a p -b q", 0), ("tee q < a.bed > p", "intersect -sorted -u -a q -b p", 0), ("tee q < a.bed > p", "intersect -sorted -u -a <(cat p) -b <(cat q)", 0),
-    ("cat a.bed > p; cat a.bed > q", "intersect -sorted -u -a p -b q", 1_000_000), ("cat a.bed > q; cat a.bed > p", "intersect -sorted -u -a p -b q", 1_000_000),
-    ("cat long.txt > q; cat a.bed > p", "complement -i p -g q", 0), ("cat a.bed > p; cat long.txt > q", "complement -i p -g q", 1_000_000),
-    (": > p; sleep 0.2; cat a.bed > q", "intersect -sorted -v -a q -b p", 0), ("cat a.bed > p; rm p", "intersect -sorted -u -a a.bed -b p", 0),
-    ("head -n 9 a.bed > p; rm p; sleep 0.2; cat a.bed > q", "intersect -sorted -u -a q -b p", 0), ("cat a.bed > p", "intersect -sorted -u -a <(cat a.bed) -b p", 0),
+    ("tee q < a.bed > p", "intersect -sorted -u -a p -b q", 0),
+    ("tee q < a.bed > p", "intersect -sorted -u -a q -b p", 0),
+    ("tee q < a.bed > p", "intersect -sorted -u -a <(cat p) -b <(cat q)", 0),
+    ("cat a.bed > p; cat a.bed > q", "intersect -sorted -u -a p -b q", 1_000_000),
+    ("cat a.bed > q; cat a.bed > p", "intersect -sorted -u -a p -b q", 1_000_000),
+    ("cat long.txt > q; cat a.bed > p", "complement -i p -g q", 0),
+    ("cat a.bed > p; cat long.txt > q", "complement -i p -g q", 1_000_000),
+    (": > p; sleep 0.2; cat a.bed > q", "intersect -sorted -v -a q -b p", 0),
+    ("cat a.bed > p; rm p", "intersect -sorted -u -a a.bed -b p", 0),
+    ("head -n 9 a.bed > p; rm p; sleep 0.2; cat a.bed > q", "intersect -sorted -u -a q -b p", 0),
+    ("cat a.bed > p", "intersect -sorted -u -a <(cat a.bed) -b p", 0),
 ]
 
 
-def compare(name, script, theirs, place, folder, count, **more):
+class Ways(NamedTuple):
+    """What a script is run by, where, and what counts it."""
+
+    theirs: str
+    place: Path
+    folder: Path
+    count: Count
+
+
+def compare(name, script, ways, **more):
     """A script in both ways: the same bytes and the same status."""
-    wanted = call(["bash", "-c", script.replace("PROGRAM", theirs)], folder, looking())
-    found = call(["bash", "-c", script.replace("PROGRAM", str(drop_in(place) / "bedtools"))], folder, looking(drop_in(place), **more))
-    count.expect(f"{name}: {script}", (wanted[0], wanted[2]), (found[0], found[2]))
-    return found
+    ours = drop_in(ways.place)
+    wanted = call(["bash", "-c", script.replace("PROGRAM", ways.theirs)], ways.folder, looking())
+    found = call(["bash", "-c", script.replace("PROGRAM", str(ours / "bedtools"))], ways.folder, looking(ours, **more))
+    ways.count.expect(f"{name}: {script}", (wanted[0], wanted[2]), (found[0], found[2]))
 
 
 def try_rooms(theirs, place, folder, count):
     """Streams that are short and long, in the temporary folders that one may have."""
-    temporary = folder.parent / "temporary"
+    temporary, ways = folder.parent / "temporary", Ways(theirs, place, folder, count)
     temporary.mkdir()
     for room in ("", "200", "70000", "0", "x"):
         for script in SCRIPTS:
             more = {"DUNEKETTLE_ROOM": room} if room else {}
-            compare(f"room {room}", script, theirs, place, folder, count, TMPDIR=str(temporary), **more)
+            compare(f"room {room}", script, ways, TMPDIR=str(temporary), **more)
             count.expect(f"what {script} leaves", [], list(temporary.iterdir()))
     try_twins(theirs, place, folder, temporary, count)
-    rooms = {"missing": "/nowhere", "a file": str(folder / "a.bed"), "read-only": "/proc", "a folder with a space": str(folder.parent / "a b")}
+    rooms = {"missing": "/nowhere", "a file": str(folder / "a.bed"), "read-only": "/proc",
+             "a folder with a space": str(folder.parent / "a b")}
     (folder.parent / "a b").mkdir()
     full = folder.parent / "full"
     full.mkdir()
-    if not subprocess.run(["mount", "-t", "tmpfs", "-o", "size=64k", "none", full], stderr=subprocess.DEVNULL, check=False).returncode:
+    mount = ["mount", "-t", "tmpfs", "-o", "size=64k", "none", full]
+    if not subprocess.run(mount, stderr=subprocess.DEVNULL, check=False).returncode:
         rooms["full"] = str(full)
     else:
         print("no mount: a full TMPDIR was tried by a df and a head of our own alone")
     for name, where in rooms.items():
         for script in SCRIPTS[:8]:
-            compare(f"TMPDIR {name}", script, theirs, place, folder, count, TMPDIR=where)
+            compare(f"TMPDIR {name}", script, ways, TMPDIR=where)
     if "full" in rooms:
         subprocess.run(["umount", full], check=True)
 
 
 def try_twins(theirs, place, folder, temporary, count):
     """Two streams of one producer, in each shell: the same as of files."""
-    (folder / "long.txt").write_text("chr1\t500000\n" + "".join(f"contig{n}\t5000\n" for n in range(20_000)), encoding="utf-8")
+    (folder / "long.txt").write_text("chr1\t500000\n" + "".join(f"contig{n}\t5000\n" for n in range(20_000)),
+                                     encoding="utf-8")
     for producer, line, needed in TWINS:
         files = {"p": "a.bed", "q": "long.txt" if "-g q" in line else "a.bed"}
         files["p"] = "few.bed" if "head" in producer else "none.bed" if ": >" in producer else files["p"]
@@ -97,41 +123,45 @@ def try_twins(theirs, place, folder, temporary, count):
             for room in ("1000000", "200", "70000"):
                 if int(room) < needed or not shutil.which(shell.split()[0]):
                     continue
-                script = f"rm -f p q; mkfifo p q; ({producer}) & timeout 60 {shell} {drop_in(place) / 'bedtools'} {line}"
-                found = call(["bash", "-c", script], folder, looking(drop_in(place), DUNEKETTLE_ROOM=room, TMPDIR=str(temporary)))
-                count.expect(f"{producer}: {shell} {line}, room {room}", (wanted[0], 0, []), (found[0], found[2], list(temporary.iterdir())))
-
-
-def fake(folder, name, script):
-    """A folder with a tool of ours."""
-    folder.mkdir(exist_ok=True)
-    (folder / name).write_text(f"#!/bin/sh\n{script}\n", encoding="utf-8")
-    (folder / name).chmod(0o755)
-    return folder
+                ours = f"{shell} {drop_in(place) / 'bedtools'}"
+                script = f"rm -f p q; mkfifo p q; ({producer}) & timeout 60 {ours} {line}"
+                found = call(["bash", "-c", script], folder,
+                             looking(drop_in(place), DUNEKETTLE_ROOM=room, TMPDIR=str(temporary)))
+                count.expect(f"{producer}: {shell} {line}, room {room}", (wanted[0], 0, []),
+                             (found[0], found[2], list(temporary.iterdir())))
 
 
 def try_losses(place, folder, count):
     """A copy that fails, and one that isn't fed any longer: a fault and a status."""
-    broken = fake(folder.parent / "broken head", "head", f'[ "$1" != -c ] || [ "$2" -le 1 ] || {{ {shutil.which("head")} -c 100; exit 1; }}; exec {shutil.which("head")} "$@"')
+    broken = fake(folder.parent / "broken head", "head",
+                  f'[ "$1" != -c ] || [ "$2" -le 1 ] || {{ {shutil.which("head")} -c 100; exit 1; }}; '
+                  f'exec {shutil.which("head")} "$@"')
     env = looking(drop_in(place), broken)
-    for script in ("cat wide.bed | bedtools intersect -wo -a - -b a.bed", "bedtools intersect -u -a <(cat a.bed) -b <(cat a.bed)"):
+    for script in ("cat wide.bed | bedtools intersect -wo -a - -b a.bed",
+                   "bedtools intersect -u -a <(cat a.bed) -b <(cat a.bed)"):
         found = call(["bash", "-c", script], folder, env)
-        count.expect(f"a copy that fails: {script}", (b"", 1, True), (found[0], found[2], "a stream is lost" in found[1]))
+        count.expect(f"a copy that fails: {script}", (b"", 1, True),
+                     (found[0], found[2], "a stream is lost" in found[1]))
     # A head that takes more than it is told, as that of busybox, gets no stream.
-    greedy = fake(folder.parent / "greedy head", "head", f'{shutil.which("dd")} bs=4096 count=1 2> /dev/null | {shutil.which("head")} "$@"')
-    for script in ("cat a.bed | bedtools merge", "cat wide.bed | bedtools intersect -wo -a - -b a.bed", "bedtools intersect -u -a <(cat a.bed) -b <(cat a.bed)"):
-        wanted, found = (call(["bash", "-c", script], folder, env) for env in (looking(), looking(drop_in(place), greedy, DUNEKETTLE_ROOM="1000")))
+    greedy = fake(folder.parent / "greedy head", "head",
+                  f'{shutil.which("dd")} bs=4096 count=1 2> /dev/null | {shutil.which("head")} "$@"')
+    for script in ("cat a.bed | bedtools merge", "cat wide.bed | bedtools intersect -wo -a - -b a.bed",
+                   "bedtools intersect -u -a <(cat a.bed) -b <(cat a.bed)"):
+        wanted, found = (call(["bash", "-c", script], folder, env)
+                         for env in (looking(), looking(drop_in(place), greedy, DUNEKETTLE_ROOM="1000")))
         count.expect(f"a head that takes too much: {script}", wanted, found)
     little = fake(folder.parent / "little room", "df", "printf 'a\\na 1 1 1 1 a\\n'")
     # What is kept in memory needs no room there.
-    for script, taker in (("cat wide.bed | bedtools intersect -wo -a - -b a.bed", str(original())), ("cat a.bed | bedtools merge", "Dunekettle")):
+    for script, taker in (("cat wide.bed | bedtools intersect -wo -a - -b a.bed", str(original())),
+                          ("cat a.bed | bedtools merge", "Dunekettle")):
         found = call(["bash", "-c", script], folder, looking(drop_in(place), little, DUNEKETTLE_TELL="1"))
         count.expect(f"little room: {script}", (taker, 0), (TOLD.findall(found[1])[0][0], found[2]))
     if is_busy("a feeder that is killed"):
         return
     slow = "(head -n 4000 a.bed; sleep 2; tail -n 4000 a.bed) |"
     for line, feeder in (("merge", "drop-in"), ("intersect -sorted -c -a - -b <(cat a.bed)", "cat")):
-        child = start(f"{slow} bedtools {line} > /dev/null; exit ${{PIPESTATUS[1]}}", place, folder, DUNEKETTLE_ROOM="1000")
+        child = start(f"{slow} bedtools {line} > /dev/null; exit ${{PIPESTATUS[1]}}", place, folder,
+                      DUNEKETTLE_ROOM="1000")
         time.sleep(1)
         feeders = [pid for pid, comm in started_by(child.pid) if comm == feeder]
         for pid in feeders:
@@ -142,7 +172,8 @@ def try_losses(place, folder, count):
 def start(script, place, folder, *first, **more):
     """A script, whose processes `started_by` finds."""
     env = looking(drop_in(place), *first, **more)
-    return subprocess.Popen(["bash", "-c", script], cwd=folder, env=env, stdin=subprocess.DEVNULL, stdout=subprocess.DEVNULL, stderr=subprocess.DEVNULL, start_new_session=True)
+    return subprocess.Popen(["bash", "-c", script], cwd=folder, env=env, stdin=subprocess.DEVNULL,
+                            stdout=subprocess.DEVNULL, stderr=subprocess.DEVNULL, start_new_session=True)
 
 
 def started_by(leader):
@@ -164,12 +195,17 @@ def try_signals(place, folder, count):
     if is_busy("signals"):
         return
     slow = fake(folder.parent / "slow tr", "tr", "exec sleep 60")
-    awk = fake(folder.parent / "slow awk", "awk", f'case "$*" in *histogram* | *hit_order*) exec sleep 60 ;; esac; exec {shutil.which("awk")} "$@"')
+    awk = fake(folder.parent / "slow awk", "awk",
+               f'case "$*" in *histogram* | *hit_order*) exec sleep 60 ;; esac; exec {shutil.which("awk")} "$@"')
     scripts = {
-        "copies": ("exec bedtools merge -i <(sleep 60)", ()), "two copies": ("exec bedtools intersect -a <(sleep 60) -b <(cat a.bed)", ()),
+        "copies": ("exec bedtools merge -i <(sleep 60)", ()),
+        "two copies": ("exec bedtools intersect -a <(sleep 60) -b <(cat a.bed)", ()),
         "opens": ("rm -f p q; mkfifo p q; cat a.bed > p & exec bedtools intersect -a p -b q", ()),
-        "looks": ("exec bedtools intersect -wo -a wide.bed -b a.bed", (slow,)), "writes": ("exec bedtools genomecov -i a.bed -g g.txt", (awk,)), "writes hits": ("exec bedtools intersect -wo -a wide.bed -b a.bed", (awk,)),
-        "pours": ("exec bedtools merge -i <(tee < a.bed; sleep 60)", ()), "pours two": ("exec bedtools intersect -sorted -a <(tee < a.bed; sleep 60) -b <(sleep 60)", ()),
+        "looks": ("exec bedtools intersect -wo -a wide.bed -b a.bed", (slow,)),
+        "writes": ("exec bedtools genomecov -i a.bed -g g.txt", (awk,)),
+        "writes hits": ("exec bedtools intersect -wo -a wide.bed -b a.bed", (awk,)),
+        "pours": ("exec bedtools merge -i <(tee < a.bed; sleep 60)", ()),
+        "pours two": ("exec bedtools intersect -sorted -a <(tee < a.bed; sleep 60) -b <(sleep 60)", ()),
     }
     temporary = folder.parent / "after signals"
     temporary.mkdir()
@@ -184,8 +220,10 @@ def try_signals(place, folder, count):
             took = time.monotonic() - begun
             time.sleep(0.2)
             # The producers are the trial's own; a kill leaves what nobody can end.
-            left = [comm for _, comm in started_by(child.pid) if comm not in ("bash", "tee", "sleep" if "looks" not in name and "writes" not in name else "")]
-            count.expect(f"{sent.name} while it {name}", (-sent, True, [], []), (status, took < 3, left if sent != signal.SIGKILL else [], list(temporary.iterdir())))
+            left = [comm for _, comm in started_by(child.pid)
+                    if comm not in ("bash", "tee", "sleep" if "looks" not in name and "writes" not in name else "")]
+            count.expect(f"{sent.name} while it {name}", (-sent, True, [], []),
+                         (status, took < 3, left if sent != signal.SIGKILL else [], list(temporary.iterdir())))
             for pid, _ in started_by(child.pid):
                 with contextlib.suppress(ProcessLookupError):
                     os.kill(pid, signal.SIGKILL)
@@ -214,7 +252,8 @@ def main():
         folder = Path(made, "data")
         folder.mkdir()
         (folder / "a.bed").write_text(ROWS, encoding="utf-8")
-        (folder / "wide.bed").write_text("".join(f"chr1\t{9000 * n}\t{9000 * n + 20_000}\tw{n}\n" for n in range(40)), encoding="utf-8")
+        (folder / "wide.bed").write_text("".join(f"chr1\t{9000 * n}\t{9000 * n + 20_000}\tw{n}\n" for n in range(40)),
+                                         encoding="utf-8")
         (folder / "g.txt").write_text("chr1\t500000\nchr2\t1000\n", encoding="utf-8")
         place = install(Path(made, "there"))
         try_rooms(theirs, place, folder, count)

@@ -63,7 +63,8 @@ def environment(**more):
 def is_running(process):
     """Whether a process is there, and not its status alone."""
     try:
-        return Path(f"/proc/{process}/stat").read_text(encoding="utf-8", errors="replace").rsplit(")", 1)[1].split()[0] not in "ZX"
+        fields = Path(f"/proc/{process}/stat").read_text(encoding="utf-8", errors="replace").rsplit(")", 1)[1]
+        return fields.split()[0] not in "ZX"
     except OSError:
         return False
 
@@ -95,7 +96,8 @@ class Stub(unittest.TestCase):
         self.home = self.top / "lib" / "dunekettle"
         self.stub, self.program = self.home / "bin" / "bedtools", self.home / "drop-in"
         self.other = self.top / "an other" / "bedtools"
-        for file, text in ((self.stub, STUB.read_text(encoding="utf-8")), (self.program, PROGRAM), (self.home / "script" / "bedtools", SHOWS.replace("NAME", "script")),
+        for file, text in ((self.stub, STUB.read_text(encoding="utf-8")), (self.program, PROGRAM),
+                           (self.home / "script" / "bedtools", SHOWS.replace("NAME", "script")),
                            (self.other, SHOWS.replace("NAME", "other"))):
             file.parent.mkdir(parents=True, exist_ok=True)
             file.write_text(text, encoding="utf-8")
@@ -135,7 +137,8 @@ class Stub(unittest.TestCase):
 
     def test_a_stream_replaces_a_word(self):
         for shell in known(PIPES):
-            for number, word in ((0, "name"), (3, "name"), (3, "/dev/fd/63"), (3, "-"), (3, "stdin"), (3, "/dev/stdin"), (3, "/dev/fd/0")):
+            for number, word in ((0, "name"), (3, "name"), (3, "/dev/fd/63"), (3, "-"), (3, "stdin"), (3, "/dev/stdin"),
+                                 (3, "/dev/fd/0")):
                 words = ["merge", "-i", word, "-g", "a b", ""]
                 wanted = [*words]
                 if number and word not in ("stdin", "/dev/stdin", "/dev/fd/0"):
@@ -148,14 +151,16 @@ class Stub(unittest.TestCase):
         for shell in known(PIPES):
             for end in ("exit 1", "exit 2", "kill -s KILL $$", "kill -s TERM $$"):
                 found = self.run_stub(shell, f'tell r; tell "s 0 $OTHER"; feed; {end}', given=BYTES)
-                self.assertEqual((found[0].endswith(BYTES), "dunekettle: a stream was lost\n" in found[1], found[2]), (True, True, 1), (shell, end))
+                self.assertEqual((found[0].endswith(BYTES), "dunekettle: a stream was lost\n" in found[1], found[2]),
+                                 (True, True, 1), (shell, end))
 
     def test_a_bedtools_that_ends_early(self):
         # The feeder waits for ever, or has nobody who reads.
         for shell in known(PIPES):
             for play in ("feed; exec sleep 60", "exec sleep 60", "exec cat /dev/zero >&$number"):
                 begun = time.monotonic()
-                found = self.run_stub(shell, f'tell r; tell "s 0 $OTHER"; {play}', given=b"ab", SAYS="exit 5", MARK=str(self.top))
+                found = self.run_stub(shell, f'tell r; tell "s 0 $OTHER"; {play}', given=b"ab", SAYS="exit 5",
+                                      MARK=str(self.top))
                 self.assertEqual((found, with_mark(self.top)), ((b"", "", 5), []), (shell, play))
                 self.assertLess(time.monotonic() - begun, 30)
 
@@ -167,18 +172,21 @@ class Stub(unittest.TestCase):
                 log.write_text("", encoding="utf-8")
                 script = "kill() { echo \"$*\" >> \"$LOG\"; command kill \"$@\"; }; . \"$0\""
                 says = "exit 5" if wanted else "sleep 0.3"
-                call([*shell, "-c", script, self.stub, "merge"], self.top, environment(OTHER=str(self.other), PLAY=f'tell "s 0 $OTHER"; {play}', SAYS=says, LOG=str(log)))
+                call([*shell, "-c", script, self.stub, "merge"], self.top,
+                     environment(OTHER=str(self.other), PLAY=f'tell "s 0 $OTHER"; {play}', SAYS=says, LOG=str(log)))
                 self.assertEqual(log.read_text(encoding="utf-8").count("USR1"), wanted, shell)
 
     def test_no_verdict(self):
         for shell in known(PIPES):
-            for play in ("tell t", "printf 'o %s' \"$OTHER\" >&$number", "exit 0", "exit 1", "kill -s KILL $$", "tell x", "tell 'd '", "tell ''"):
+            for play in ("tell t", "printf 'o %s' \"$OTHER\" >&$number", "exit 0", "exit 1", "kill -s KILL $$",
+                         "tell x", "tell 'd '", "tell ''"):
                 found = self.run_stub(shell, play, WORDS, b"bytes")
                 self.assertEqual((found[0], found[2]), (self.shown("script", WORDS, "", b"bytes"), 7), (shell, play))
             # Bytes that it took away nobody else gets.
             for play in ("tell r", "tell r; exit 1", "tell r; kill -s KILL $$", "tell r; printf d >&$number"):
                 found = self.run_stub(shell, play, WORDS, b"bytes")
-                self.assertEqual((found[0], "dunekettle: a stream was lost\n" in found[1], found[2]), (b"", True, 1), (shell, play))
+                self.assertEqual((found[0], "dunekettle: a stream was lost\n" in found[1], found[2]), (b"", True, 1),
+                                 (shell, play))
 
     def test_no_program(self):
         for how in ("missing", "empty", "a folder", "not executable"):
@@ -189,7 +197,8 @@ class Stub(unittest.TestCase):
                 self.program.write_text("" if how == "empty" else PROGRAM, encoding="utf-8")
                 self.program.chmod(0o755 if how == "empty" else 0o644)
             for shell in known(PIPES):
-                self.assertEqual(self.run_stub(shell, "tell d", WORDS, b"bytes"), (self.shown("script", WORDS, "", b"bytes"), "", 7), (shell, how))
+                self.assertEqual(self.run_stub(shell, "tell d", WORDS, b"bytes"),
+                                 (self.shown("script", WORDS, "", b"bytes"), "", 7), (shell, how))
             if how == "a folder":
                 self.program.rmdir()
             self.program.touch()
@@ -197,16 +206,22 @@ class Stub(unittest.TestCase):
     def test_other_shells(self):
         for shell in known(FILES):
             for words in (WORDS, ["sort"]):
-                self.assertEqual(self.run_stub(shell, "tell d", words, b"bytes"), (self.shown("script", words, "", b"bytes"), "", 7), shell)
+                self.assertEqual(self.run_stub(shell, "tell d", words, b"bytes"),
+                                 (self.shown("script", words, "", b"bytes"), "", 7), shell)
 
     def test_what_the_script_takes(self):
         for shell in known((*PIPES, *FILES)):
-            for words, more in (([], {}), ([""], {}), (["--version"], {}), (["-h"], {}), (["--help"], {}), (["help"], {}), (["merge"], {"DUNEKETTLE_ALWAYS": "1"}),
+            for words, more in (([], {}), ([""], {}), (["--version"], {}), (["-h"], {}), (["--help"], {}),
+                                (["help"], {}), (["merge"], {"DUNEKETTLE_ALWAYS": "1"}),
                                 (["merge"], {"DUNEKETTLE_STREAMS": "1"})):
-                self.assertEqual(self.run_stub(shell, "tell d", words, b"bytes", **more), (self.shown("script", words or [""][:0], "", b"bytes").replace(b"script\n\n", b"script\n\0\n" if not words else b"script\n\n"), "", 7), (shell, words))
+                found = self.run_stub(shell, "tell d", words, b"bytes", **more)
+                # Without words, printf writes an empty one.
+                wanted = self.shown("script", words or [""], "", b"bytes")
+                self.assertEqual(found, (wanted, "", 7), (shell, words))
 
     def test_older_names(self):
-        names = {"mergeBed": "merge", "complementBed": "complement", "intersectBed": "intersect", "subtractBed": "subtract", "genomeCoverageBed": "genomecov", "bamToBed": "bamtobed",
+        names = {"mergeBed": "merge", "complementBed": "complement", "intersectBed": "intersect",
+                 "subtractBed": "subtract", "genomeCoverageBed": "genomecov", "bamToBed": "bamtobed",
                  "maskFastaFromBed": "maskfasta"}
         for name, command in names.items():
             link = self.top / name
@@ -219,13 +234,18 @@ class Stub(unittest.TestCase):
             for closed in itertools.product((False, True), repeat=3):
                 closing = "".join(f" {number}{'<' if number == 0 else '>'}&-" for number in range(3) if closed[number])
                 opened = "".join("o" if not is_closed else "c" for is_closed in closed)
-                look = 'for n in 0 1 2; do if [ -e /dev/fd/$n ]; then out=${out-}o; else out=${out-}c; fi; done; echo "$out" > "$FOUND"'
-                for play, says in ((f"tell d; {look}", ""), ('tell "o $OTHER"', look + "; exit 0"), ("tell t", look + "; exit 0"), ('tell r; tell "s 0 $OTHER"', look + "; exit 0")):
+                look = ('for n in 0 1 2; do if [ -e /dev/fd/$n ]; then out=${out-}o; else out=${out-}c; fi; done; '
+                        'echo "$out" > "$FOUND"')
+                for play, says in ((f"tell d; {look}", ""), ('tell "o $OTHER"', look + "; exit 0"),
+                                   ("tell t", look + "; exit 0"), ('tell r; tell "s 0 $OTHER"', look + "; exit 0")):
                     found = self.top / "found"
                     found.unlink(missing_ok=True)
                     env = environment(OTHER=str(self.other), PLAY=play, SAYS=says, FOUND=str(found))
-                    status = subprocess.run(["bash", "-c", f"exec {' '.join(shell)} {self.stub} merge{closing}"], env=env, stdin=subprocess.DEVNULL, stdout=subprocess.DEVNULL, check=False).returncode
-                    wanted, seen = "o" + opened[1:] if "s 0" in play else opened, found.read_text(encoding="utf-8").strip()
+                    status = subprocess.run(["bash", "-c", f"exec {' '.join(shell)} {self.stub} merge{closing}"],
+                                            env=env, stdin=subprocess.DEVNULL, stdout=subprocess.DEVNULL,
+                                            check=False).returncode
+                    wanted, seen = ("o" + opened[1:] if "s 0" in play else opened,
+                                    found.read_text(encoding="utf-8").strip())
                     # A bash itself opens a script as the first number that is free.
                     is_right = seen == wanted or "bash" in shell[0] and seen[0] == wanted[0]
                     self.assertEqual((is_right, status), (True, 0), (shell, closing, play, seen))
@@ -238,9 +258,11 @@ class Stub(unittest.TestCase):
                 opening = "".join(f" {number}< /dev/null" for number in mine)
                 env = environment(OTHER=str(self.other), SAYS=show)
                 for play in ('tell "o $OTHER"', "tell t", 'tell r; tell "s 0 $OTHER"'):
-                    found = call(["bash", "-c", f"exec {' '.join(shell)} {self.stub} merge{opening}"], self.top, {**env, "PLAY": play})
+                    found = call(["bash", "-c", f"exec {' '.join(shell)} {self.stub} merge{opening}"], self.top,
+                                 {**env, "PLAY": play})
                     self.assertEqual(found, (f"012{mine}".encode(), "", 0), (shell, mine, play))
-                found = call(["bash", "-c", f"exec {' '.join(shell)} {self.stub} merge{opening}"], self.top, {**env, "PLAY": "tell d; printf native", "SAYS": "printf script; exit"})
+                found = call(["bash", "-c", f"exec {' '.join(shell)} {self.stub} merge{opening}"], self.top,
+                             {**env, "PLAY": "tell d; printf native", "SAYS": "printf script; exit"})
                 self.assertEqual(found[0], b"native" if len(mine) < 4 else b"script", (shell, mine))
 
     def test_a_reader_that_is_gone(self):
@@ -250,18 +272,21 @@ class Stub(unittest.TestCase):
             self.assertEqual(call([*shell, self.stub, "merge"], self.top, env), (b"", "", -signal.SIGPIPE), shell)
             found = call(["bash", "-c", f"trap '' PIPE; {program} merge"], self.top, env)
             self.assertEqual(found, (b"", "bedtools merge: writing failed\n" + WHOSE, 1), shell)
-            found = call(["bash", "-c", f"yes | {program} merge | head -n 1 > /dev/null; echo ${{PIPESTATUS[1]}}"], self.top, {**env, "PLAY": 'tell r; tell "s 0 $OTHER"; feed', "SAYS": "exec cat"})
+            found = call(["bash", "-c", f"yes | {program} merge | head -n 1 > /dev/null; echo ${{PIPESTATUS[1]}}"],
+                         self.top, {**env, "PLAY": 'tell r; tell "s 0 $OTHER"; feed', "SAYS": "exec cat"})
             self.assertEqual(found, (b"141\n", "", 0), shell)
 
     def test_signals(self):
         if is_busy("signals of the stub"):
             return
-        slow = {"waits for a line": "exec sleep 60", "reads": "tell r; exec sleep 60", "runs": "tell d; exec sleep 60", "pours": 'tell "s 0 $OTHER"; exec sleep 60',
-                "has poured": 'tell "s 0 $OTHER"', "is another": 'tell "o $OTHER"', "is the script": "tell t"}
+        slow = {"waits for a line": "exec sleep 60", "reads": "tell r; exec sleep 60", "runs": "tell d; exec sleep 60",
+                "pours": 'tell "s 0 $OTHER"; exec sleep 60', "has poured": 'tell "s 0 $OTHER"',
+                "is another": 'tell "o $OTHER"', "is the script": "tell t"}
         for shell in known(PIPES):
             for (name, play), sent in itertools.product(slow.items(), SIGNALS):
                 env = environment(OTHER=str(self.other), PLAY=play, SAYS="exec sleep 60", MARK=str(self.top))
-                with subprocess.Popen([*shell, self.stub, "merge"], env=env, stdin=subprocess.DEVNULL, stdout=subprocess.DEVNULL, stderr=subprocess.PIPE) as child:
+                with subprocess.Popen([*shell, self.stub, "merge"], env=env, stdin=subprocess.DEVNULL,
+                                      stdout=subprocess.DEVNULL, stderr=subprocess.PIPE) as child:
                     time.sleep(0.15)
                     begun = time.monotonic()
                     child.send_signal(sent)
@@ -279,8 +304,10 @@ class Stub(unittest.TestCase):
             for count in range(80):
                 play = ("tell d; exec sleep 60", 'tell "s 0 $OTHER"; exec sleep 60')[count // 3 % 2]
                 sent = (signal.SIGHUP, signal.SIGINT, signal.SIGTERM)[count % 3]
-                env = environment(OTHER=str(self.other), PLAY=f"sleep 0.01; {play}", SAYS="exec sleep 60", MARK=str(self.top))
-                with subprocess.Popen([*shell, self.stub, "merge"], env=env, stdin=subprocess.DEVNULL, stdout=subprocess.DEVNULL, stderr=subprocess.DEVNULL) as child:
+                env = environment(OTHER=str(self.other), PLAY=f"sleep 0.01; {play}", SAYS="exec sleep 60",
+                                  MARK=str(self.top))
+                with subprocess.Popen([*shell, self.stub, "merge"], env=env, stdin=subprocess.DEVNULL,
+                                      stdout=subprocess.DEVNULL, stderr=subprocess.DEVNULL) as child:
                     time.sleep(0.0003 * count)
                     child.send_signal(sent)
                     begun = time.monotonic()
@@ -290,29 +317,38 @@ class Stub(unittest.TestCase):
 
     def test_ignored_signals(self):
         for shell in known(PIPES):
-            for play, wanted in (("sleep 0.3; tell d; sleep 0.3; echo done", b"done\n"), ('tell "s 0 $OTHER"; sleep 0.3; echo done >&$number', b"done\n")):
+            for play, wanted in (("sleep 0.3; tell d; sleep 0.3; echo done", b"done\n"),
+                                 ('tell "s 0 $OTHER"; sleep 0.3; echo done >&$number', b"done\n")):
                 for sent in SIGNALS:
                     script = f"trap '' {sent.name[3:]}; exec {' '.join(shell)} {self.stub} merge"
                     env = environment(OTHER=str(self.other), PLAY=play, SAYS="exec cat")
-                    with subprocess.Popen(["bash", "-c", script], env=env, stdin=subprocess.DEVNULL, stdout=subprocess.PIPE) as child:
+                    with subprocess.Popen(["bash", "-c", script], env=env, stdin=subprocess.DEVNULL,
+                                          stdout=subprocess.PIPE) as child:
                         time.sleep(0.2)
                         child.send_signal(sent)
                         self.assertEqual((child.stdout.read(), child.wait(timeout=20)), (wanted, 0), (shell, sent))
 
     def test_options_of_the_caller(self):
         shell = [shutil.which("bash"), "--posix"]
-        for option in ("errexit", "nounset", "noglob", "noclobber", "pipefail", "monitor", "allexport", "errexit:nounset:noclobber:noglob:pipefail:monitor"):
-            for play, says in (("tell d; printf %s \"$1\"; exit 3", ""), ('tell "o $OTHER"', "exit 3"), ('tell r; tell "s 0 $OTHER"; feed', "cat; exit 3"), ("tell t", "exit 3")):
+        for option in ("errexit", "nounset", "noglob", "noclobber", "pipefail", "monitor", "allexport",
+                       "errexit:nounset:noclobber:noglob:pipefail:monitor"):
+            for play, says in (("tell d; printf %s \"$1\"; exit 3", ""), ('tell "o $OTHER"', "exit 3"),
+                               ('tell r; tell "s 0 $OTHER"; feed', "cat; exit 3"), ("tell t", "exit 3")):
                 wanted = self.run_stub(shell, play, given=BYTES, SAYS=says)
                 self.assertEqual(wanted[2], 3)
-                self.assertEqual(self.run_stub(shell, play, given=BYTES, SAYS=says, SHELLOPTS=option), wanted, (option, play))
+                self.assertEqual(self.run_stub(shell, play, given=BYTES, SAYS=says, SHELLOPTS=option), wanted,
+                                 (option, play))
 
     def test_the_environment(self):
-        variables = {name: "mine" for name in ("file", "line", "home", "status", "each", "read", "write", "at", "path", "count", "name", "rest", "number", "IFS_", "child", "feeder")}
+        variables = {name: "mine"
+                     for name in ("file", "line", "home", "status", "each", "read", "write", "at", "path", "count",
+                                  "name", "rest", "number", "IFS_", "child", "feeder")}
         for shell in known(PIPES):
             for play in ('tell "o $OTHER"', 'tell "s 0 $OTHER"', "tell t"):
                 output = self.run_stub(shell, play, SAYS="env; exit", **variables)[0].decode().splitlines()
-                self.assertEqual(([name for name in variables if f"{name}=mine" not in output], [line for line in output if line.startswith("dk_")]), ([], []), shell)
+                self.assertEqual(([name for name in variables if f"{name}=mine" not in output],
+                                  [line for line in output if line.startswith("dk_")]),
+                                 ([], []), shell)
 
     def test_homes(self):
         # Behind links; a copy beside which others may put files; and a copy that finds the installation on PATH.
@@ -327,7 +363,8 @@ class Stub(unittest.TestCase):
         for place in (self.top / "first", self.top / "second", self.stub.parent / "mergeBed"):
             self.assertEqual(call([place, "merge"], self.top, env), (b"native\n", "", 0))
         self.assertEqual(call(["sh", "bedtools", "merge"], self.stub.parent, env), (b"native\n", "", 0))
-        self.assertEqual(call(["bedtools", "merge"], self.stub.parent, {**env, "PATH": f":{env['PATH']}"}), (b"native\n", "", 0))
+        self.assertEqual(call(["bedtools", "merge"], self.stub.parent, {**env, "PATH": f":{env['PATH']}"}),
+                         (b"native\n", "", 0))
         for sticky in ("open", "open/bin"):
             scratch = self.top / f"scratch {sticky.replace('/', ' ')}"
             for file in ("open/drop-in", "open/script/bedtools", "drop-in", "script/bedtools"):
@@ -340,18 +377,24 @@ class Stub(unittest.TestCase):
             (scratch / sticky).chmod(0o1777)
             found = call([copy, "merge"], self.top, {**env, "PATH": f"{program.parent}:{env['PATH']}"})
             self.assertEqual((found, (self.top / "hit").exists()), ((b"native\n", "", 0), False), sticky)
-            found = call([copy, "merge"], self.top, {**env, "PATH": f"{copy.parent}:{self.other.parent}:/usr/bin:/bin", "SAYS": "echo other; exit"})
+            found = call([copy, "merge"], self.top,
+                         {**env, "PATH": f"{copy.parent}:{self.other.parent}:/usr/bin:/bin",
+                          "SAYS": "echo other; exit"})
             self.assertEqual((found, (self.top / "hit").exists()), ((b"other\n", "", 0), False), sticky)
             (self.top / "tools").mkdir(exist_ok=True)
-            found = call([shutil.which("dash"), copy, "merge"], self.top, {**env, "PATH": f"{copy.parent}:{self.top / 'tools'}"})
-            self.assertEqual((found[0], found[1].count("\n"), "is a copy" in found[1], found[2], (self.top / "hit").exists()), (b"", 1, True, 127, False), sticky)
+            found = call([shutil.which("dash"), copy, "merge"], self.top,
+                         {**env, "PATH": f"{copy.parent}:{self.top / 'tools'}"})
+            self.assertEqual((found[0], found[1].count("\n"), "is a copy" in found[1], found[2],
+                              (self.top / "hit").exists()),
+                             (b"", 1, True, 127, False), sticky)
 
     def test_two_copies(self):
         # Copies without an installation don't call each other for ever.
         for name in ("one", "two"):
             (self.top / name).mkdir()
             shutil.copy(STUB, self.top / name / "bedtools")
-        env = environment(PATH=f"{self.top / 'one'}:{self.top / 'two'}:{self.other.parent}:/usr/bin:/bin", SAYS="echo other; exit")
+        env = environment(PATH=f"{self.top / 'one'}:{self.top / 'two'}:{self.other.parent}:/usr/bin:/bin",
+                          SAYS="echo other; exit")
         self.assertEqual(call([self.top / "one" / "bedtools", "mergeBed"], self.top, env), (b"other\n", "", 0))
         env["PATH"] = f"{self.top / 'one'}:{self.top / 'two'}"
         self.assertEqual(call([shutil.which("dash"), self.top / "one" / "bedtools", "sort"], self.top, env)[2], 127)

@@ -18,8 +18,8 @@ PROGRAM, DROP_IN = TOP / "bin" / "bedtools", TOP / "bin" / "drop-in"
 # Who took a command line, as DUNEKETTLE_TELL says it.
 TOLD = re.compile(r"^dunekettle: (.*?) takes (\w*)", re.MULTILINE)
 # The tools that the front calls, and those of the trials.
-TOOLS = ("sh", "bash", "awk", "cat", "cmp", "cut", "dash", "df", "env", "grep", "gzip", "head", "mkfifo", "mktemp", "od", "printf",
-         "readlink", "rm", "samtools", "sed", "sleep", "sort", "tail", "tr", "uniq", "wc")
+TOOLS = ("sh", "bash", "awk", "cat", "cmp", "cut", "dash", "df", "env", "grep", "gzip", "head", "mkfifo", "mktemp",
+         "od", "printf", "readlink", "rm", "samtools", "sed", "sleep", "sort", "tail", "tr", "uniq", "wc")
 
 
 def original():
@@ -34,7 +34,8 @@ def original():
 
 def install(prefix):
     """Installs both programs and the front into a folder, as `make install` does, without the pages."""
-    subprocess.run([TOP / "packaging" / "install.sh", prefix, prefix, "dunekettle-bedtools", PROGRAM, DROP_IN], check=True)
+    subprocess.run([TOP / "packaging" / "install.sh", prefix, prefix, "dunekettle-bedtools", PROGRAM, DROP_IN],
+                   check=True)
     return prefix
 
 
@@ -65,6 +66,19 @@ def looking(*first, **more):
     return environment(*first, **{"DUNEKETTLE_SMALL": "0", **more})
 
 
+def with_path(*folders, **more):
+    """The same with these folders on PATH, and no others."""
+    return {**looking(**more), "PATH": os.pathsep.join(map(str, folders))}
+
+
+def fake(folder, name, script):
+    """A folder with a tool of ours: a script of sh."""
+    folder.mkdir(exist_ok=True)
+    (folder / name).write_text(f"#!/bin/sh\n{script}\n", encoding="utf-8")
+    (folder / name).chmod(0o755)
+    return folder
+
+
 # What a shell starts in the background, or by nohup, ignores some signals, and so would what is tried.
 for ignored in (signal.SIGHUP, signal.SIGINT, signal.SIGQUIT, signal.SIGTERM):
     if signal.getsignal(ignored) == signal.SIG_IGN:
@@ -92,12 +106,13 @@ def is_busy(what):
 
 
 def call(words, folder, env, **how):
-    """Runs a command, and gives its output, what it said, and its status. One that has no answer after two minutes, or after
-    as many times more as the machine is slower, is ended with a word."""
+    """Runs a command, and gives its output, what it said, and its status. One that has no answer after two minutes, or
+    after as many times more as the machine is slower, is ended with a word."""
     how = {"stdin": subprocess.DEVNULL, "timeout": 120, **how}
     patience, given, begun = how.pop("timeout"), how.pop("input", None), time.monotonic()
     how["stdin"] = how["stdin"] if given is None else subprocess.PIPE
-    with subprocess.Popen([*map(os.fspath, words)], cwd=folder, env=env, stdout=subprocess.PIPE, stderr=subprocess.PIPE, **how) as child:
+    with subprocess.Popen([*map(os.fspath, words)], cwd=folder, env=env, stdout=subprocess.PIPE, stderr=subprocess.PIPE,
+                          **how) as child:
         while True:
             try:
                 output, said = child.communicate(given, timeout=patience)
@@ -106,7 +121,8 @@ def call(words, folder, env, **how):
                 given, took, slower = None, time.monotonic() - begun, slowness()
                 if took > patience * slower:
                     child.kill()
-                    print(f"no answer after {took:.0f} seconds, on a machine that is {slower:.0f} times slower than alone: {' '.join(map(str, words))[:300]}")
+                    print(f"no answer after {took:.0f} seconds, on a machine that is {slower:.0f} times slower than "
+                          f"alone: {' '.join(map(str, words))[:300]}")
                     return late.output or b"", "no answer", child.wait()
 
 

@@ -1,10 +1,10 @@
 #!/bin/bash
-# Tries what `make install`, `make dist` and `make deb` make, in a folder of its own: the program, its front and the drop-in
-# run from there, the manual pages and completions have its name, each link of the pages leads somewhere, the checksums are
-# right, and the Debian package installs beside another bedtools and goes without a trace. One commit gives one package,
-# whatever the umask, the file system and the variables are; installing beside calls breaks none; and the installed scripts
-# are tried by tests/recipes/safe.py, shellcheck and lintian. What needs a shell or a program that isn't here is passed over
-# with a word.
+# Tries what `make install`, `make dist` and `make deb` make, in a folder of its own: the program, its front and the
+# drop-in run from there, the manual pages and completions have its name, each link of the pages leads somewhere, the
+# checksums are right, and the Debian package installs beside another bedtools and goes without a trace. One commit
+# gives one package, whatever the umask, the file system and the variables are; installing beside calls breaks none; and
+# the installed scripts are tried by tests/recipes/safe.py, shellcheck and lintian. What needs a shell or a program that
+# isn't here is passed over with a word.
 #
 #     tests/packages/check.sh
 set -euo pipefail
@@ -32,37 +32,63 @@ lost_links() {
     done
 }
 
+# The first words of who took a call of merge with the drop-in in a folder of an installation.
+who_takes() { DUNEKETTLE_TELL=1 "$1/lib/dunekettle/bin/bedtools" merge -i "$2" 2>&1 > /dev/null | cut -d : -f 1,2; }
+
+# The status of a call of the drop-in whose reader goes away.
+without_reader() {
+    set +e
+    "$1/lib/dunekettle/bin/bedtools" merge -i "$folder/long.bed" | head -n 1 > /dev/null
+    echo "${PIPESTATUS[0]}"
+}
+
+# The programs of the drop-in that may be run.
+programs_of() {
+    cd "$1/lib/dunekettle"
+    for file in bin/bedtools drop-in script/bedtools; do
+        [ ! -x "$file" ] || echo "${file#bin/}"
+    done | paste -s -d ' '
+}
+
 # The front and the drop-in in a folder of an installation, with nothing but them and usual tools on PATH.
 expect_front() {
-    expect "$2: the front" "chr1	2	9" "$(records | "$1/bin/dunekettle" merge)"
-    expect "$2: its help" "dunekettle merge [-i FILE] [-g GENOME] [-d N] [-s | -S + | -S -]" "$("$1/bin/dunekettle" help merge | head -n 1)"
-    expect "$2: its hint" "dunekettle: none isn't there" "$("$1/bin/dunekettle" merge -i none 2>&1 | tail -n 1 || true)"
-    expect "$2: its check" "$folder/sorted.bed: BED; 2 records on 1 chromosome; 3 columns; sorted, by the bytes of the names" \
-        "$("$1/bin/dunekettle" check "$folder/sorted.bed")"
-    expect "$2: its version" "Dunekettle $(sed -n 's/^## //p' CHANGELOG.md | head -n 1)" "$("$1/bin/dunekettle" --version | sed -n '1s/,.*//p')"
-    expect "$2: the drop-in" "chr1	2	9" "$("$1/lib/dunekettle/bin/mergeBed" -i "$folder/sorted.bed")"
-    expect "$2: who took it" "dunekettle: Dunekettle takes merge" "$(DUNEKETTLE_TELL=1 "$1/lib/dunekettle/bin/bedtools" merge -i "$folder/long.bed" 2>&1 > /dev/null | cut -d : -f 1,2)"
-    DUNEKETTLE_TELL=$folder/told.txt "$1/lib/dunekettle/bin/bedtools" merge -i "$folder/long.bed" > /dev/null
+    local front=$1/bin/dunekettle links=$1/lib/dunekettle/bin
+    expect "$2: the front" "chr1	2	9" "$(records | "$front" merge)"
+    expect "$2: its help" "dunekettle merge [-i FILE] [-g GENOME] [-d N] [-s | -S + | -S -]" \
+        "$("$front" help merge | head -n 1)"
+    expect "$2: its hint" "dunekettle: none isn't there" "$("$front" merge -i none 2>&1 | tail -n 1 || true)"
+    expect "$2: its check" \
+        "$folder/sorted.bed: BED; 2 records on 1 chromosome; 3 columns; sorted, by the bytes of the names" \
+        "$("$front" check "$folder/sorted.bed")"
+    expect "$2: its version" "Dunekettle $(sed -n 's/^## //p' CHANGELOG.md | head -n 1)" \
+        "$("$front" --version | sed -n '1s/,.*//p')"
+    expect "$2: the drop-in" "chr1	2	9" "$("$links/mergeBed" -i "$folder/sorted.bed")"
+    expect "$2: who took it" "dunekettle: Dunekettle takes merge" "$(who_takes "$1" "$folder/long.bed")"
+    DUNEKETTLE_TELL=$folder/told.txt "$links/bedtools" merge -i "$folder/long.bed" > /dev/null
     expect "$2: its report" "1 call, of which 1 of the seven commands; Dunekettle took 1 of 1 (100 percent)" \
-        "$("$1/bin/dunekettle" report "$folder/told.txt" | head -n 1)"
+        "$("$front" report "$folder/told.txt" | head -n 1)"
     rm -f "$folder/told.txt"
-    cp "$1/bin/dunekettle" "$folder/copy"
+    cp "$front" "$folder/copy"
     expect "$2: a copy of the front" "chr1	2	9" "$(records | PATH=$1/bin:$PATH "$folder/copy" merge)"
-    expect "$2: a reader that goes away" "141" "$(set +e; "$1/lib/dunekettle/bin/bedtools" merge -i "$folder/long.bed" | head -n 1 > /dev/null; echo "${PIPESTATUS[0]}")"
-    expect "$2: its links" "7" "$(find "$1/lib/dunekettle/bin" -type l -exec test -x {} \; -print | wc -l)"
-    expect "$2: the drop-in's program" "bedtools drop-in script/bedtools" "$(cd "$1/lib/dunekettle" && for file in bin/bedtools drop-in script/bedtools; do [ ! -x "$file" ] || echo "${file#bin/}"; done | paste -s -d ' ')"
-    expect "$2: who takes a small file" "dunekettle: Dunekettle takes merge" "$(DUNEKETTLE_TELL=1 "$1/lib/dunekettle/bin/bedtools" merge -i "$folder/sorted.bed" 2>&1 > /dev/null | cut -d : -f 1,2)"
-    ln -sf "$1/lib/dunekettle/bin/mergeBed" "$folder/mergeBed"
+    expect "$2: a reader that goes away" "141" "$(without_reader "$1")"
+    expect "$2: its links" "7" "$(find "$links" -type l -exec test -x {} \; -print | wc -l)"
+    expect "$2: the drop-in's program" "bedtools drop-in script/bedtools" "$(programs_of "$1")"
+    expect "$2: who takes a small file" "dunekettle: Dunekettle takes merge" "$(who_takes "$1" "$folder/sorted.bed")"
+    ln -sf "$links/mergeBed" "$folder/mergeBed"
     expect "$2: a link to the drop-in" "chr1	2	9" "$("$folder/mergeBed" -i "$folder/sorted.bed")"
 }
 
 # Words that a shell offers for a begun command line, in one line.
 in_bash() {
     bash -c "source '$share/bash-completion/completions/${1%% *}'
-        COMP_WORDS=($1); COMP_CWORD=\$((\${#COMP_WORDS[@]} - 1)); _$(tr - _ <<< "${2:-dunekettle-bedtools}") 2> /dev/null
+        COMP_WORDS=($1); COMP_CWORD=\$((\${#COMP_WORDS[@]} - 1))
+        _$(tr - _ <<< "${2:-dunekettle-bedtools}") 2> /dev/null
         printf '%s\n' \"\${COMPREPLY[@]%%  (*}\"" | sort | paste -s -d ' '
 }
-in_fish() { fish -c "source '$share/fish/vendor_completions.d/${1%% *}.fish'; complete -C '$1'" | cut -f 1 | sort | paste -s -d ' '; }
+in_fish() {
+    fish -c "source '$share/fish/vendor_completions.d/${1%% *}.fish'; complete -C '$1'" | cut -f 1 | sort |
+        paste -s -d ' '
+}
 in_zsh() { # what zsh shows behind a tab, as soon as it has a word
     zsh -f -c "zmodload zsh/zpty; zpty shell zsh -f -i; zpty -w shell 'fpath=($share/zsh/site-functions \$fpath)
         autoload -Uz compinit; compinit -u -d $folder/dump; PS1=; unsetopt beep; LISTMAX=999; COLUMNS=300'
@@ -82,16 +108,22 @@ fi
 expect_front "$folder/there" "the installation"
 expect "the docs of an installation" "yes" "$([ -f "$share/doc/trial-tools/docs/ERRORS.md" ] && echo yes)"
 expect "links of its pages that lead nowhere" "" "$(lost_links "$share/doc/trial-tools")"
-expect "a recipe" "$(printf 'chr1\t2\t6\nchr1\t4\t9')" "$(PATH=$folder/there/bin:$PATH "$share/dunekettle/recipes/intersect-F.sh" -a "$folder/sorted.bed" -b "$folder/sorted.bed" -F 0.5 -u)"
-expect "a recipe, and no program on PATH" "$(printf 'chr1\t2\t6\nchr1\t4\t9')" "$("$share/dunekettle/recipes/intersect-F.sh" -a "$folder/sorted.bed" -b "$folder/sorted.bed" -F 0.5 -u)"
-expect "links of its pages" "yes" "$([ "$(grep -o '\](' -r "$share/doc/trial-tools" --include='*.md' | wc -l)" -gt 100 ] && echo yes)"
+recipe() { "$share/dunekettle/recipes/intersect-F.sh" -a "$folder/sorted.bed" -b "$folder/sorted.bed" -F 0.5 -u; }
+expect "a recipe" "$(printf 'chr1\t2\t6\nchr1\t4\t9')" "$(PATH=$folder/there/bin:$PATH recipe)"
+expect "a recipe, and no program on PATH" "$(printf 'chr1\t2\t6\nchr1\t4\t9')" "$(recipe)"
+links=$(grep -o '\](' -r "$share/doc/trial-tools" --include='*.md' | wc -l)
+expect "links of its pages" "yes" "$([ "$links" -gt 100 ] && echo yes)"
 if has man; then
-    page=$(MANWIDTH=80 man -l "$share/man/man1/trial-tools.1" | col -b)
+    shown_page() { MANWIDTH=80 man -l "$share/man/man1/$1.1" | col -b; }
+    page=$(shown_page trial-tools)
     expect "the examples of its manual page" "yes" "$(grep -q 'trial-tools merge -i' <<< "$page" && echo yes)"
     expect "no example of another name" "" "$(grep -E 'bedtools (merge|intersect|bamtobed) ' <<< "$page" || true)"
-    expect "the page of its front" "yes" "$(MANWIDTH=80 man -l "$share/man/man1/dunekettle.1" | col -b | grep -c 'trial-tools(1)' > /dev/null && echo yes)"
-    expect "a page of each command" "7" "$(for file in "$share"/man/man1/dunekettle-*.1; do MANWIDTH=80 man -l "$file" | col -b | grep -c '^OPTIONS'; done | wc -l)"
-    expect "the page of a command" "yes" "$(MANWIDTH=80 man -l "$share/man/man1/dunekettle-merge.1" | col -b | grep -c 'trial-tools(1)' > /dev/null && echo yes)"
+    expect "the page of its front" "yes" "$(shown_page dunekettle | grep -c 'trial-tools(1)' > /dev/null && echo yes)"
+    expect "a page of each command" "7" "$(for file in "$share"/man/man1/dunekettle-*.1; do
+        shown_page "$(basename "$file" .1)" | grep -c '^OPTIONS'
+    done | wc -l)"
+    expect "the page of a command" "yes" \
+        "$(shown_page dunekettle-merge | grep -c 'trial-tools(1)' > /dev/null && echo yes)"
     expect "its title" "yes" "$(grep -q '^TRIAL-TOOLS(1)' <<< "$page" && echo yes)"
 fi
 expect "a command in bash" "merge" "$(in_bash 'trial-tools me')"
@@ -118,30 +150,38 @@ expect "installed recipes" "$(find recipes shards -type f | wc -l)" "$(find "$sh
 expect "a program of another name in a script" "" "$(grep -l dunekettle-bedtools -r "$share/dunekettle" || true)"
 ln -s trial-tools "$folder/there/bin/dunekettle-bedtools"
 for kind in recipes shards; do
-    expect "names and calls of installed $kind" "0" "$(PATH=$folder/there/bin:$PATH tests/recipes/safe.py "$kind" "$share/dunekettle/$kind" > "$folder/said.txt" 2>&1; echo $?)"
+    expect "names and calls of installed $kind" "0" "$(PATH=$folder/there/bin:$PATH tests/recipes/safe.py "$kind" \
+        "$share/dunekettle/$kind" > "$folder/said.txt" 2>&1; echo $?)"
     tail -n 3 "$folder/said.txt"
 done
 rm "$folder/there/bin/dunekettle-bedtools"
 mapfile -t cut < <(printf '%s\n' "${scripts[@]}" | grep -v functions.sh)
-expect "installed scripts that are cut" "0" "$(tests/recipes/safe.py cut "${cut[@]}" "$folder/there/bin/dunekettle" "$folder/there/lib/dunekettle/bin/bedtools" packaging/install.sh packaging/uninstall.sh packaging/dist.sh packaging/deb.sh > "$folder/said.txt" 2>&1; echo $?)"
+cut+=("$folder/there/bin/dunekettle" "$folder/there/lib/dunekettle/bin/bedtools" packaging/*.sh)
+expect "installed scripts that are cut" "0" \
+    "$(tests/recipes/safe.py cut "${cut[@]}" > "$folder/said.txt" 2>&1; echo $?)"
 tail -n 3 "$folder/said.txt"
 if has shellcheck; then
-    expect "shellcheck of installed scripts" "" "$(shellcheck -x -P SCRIPTDIR -P "$folder/there/lib/dunekettle" "$folder/there/bin/dunekettle" "$folder/there/lib/dunekettle/bin/bedtools" "$folder"/there/lib/dunekettle/*.sh "${scripts[@]}" || true)"
+    home=$folder/there/lib/dunekettle
+    expect "shellcheck of installed scripts" "" "$(shellcheck -x -P SCRIPTDIR -P "$home" \
+        "$folder/there/bin/dunekettle" "$home/bin/bedtools" "$home"/*.sh "${scripts[@]}" || true)"
 fi
 mv "$share/doc" "$folder/doc"
-expect "a recipe without the folder of pages" "$(records)" "$(PATH=$folder/there/bin:$PATH "$share/dunekettle/recipes/intersect-F.sh" -a "$folder/sorted.bed" -b "$folder/sorted.bed" -F 0.5 -u)"
+expect "a recipe without the folder of pages" "$(records)" "$(PATH=$folder/there/bin:$PATH recipe)"
 mv "$folder/doc" "$share/doc"
 
 # Calls while it is installed again and again: each has the whole output.
 while [ ! -e "$folder/enough" ]; do make --silent install DESTDIR= PREFIX="$folder/there" NAME=trial-tools; done &
 installer=$!
 calls=0 broken=0
+ours=("$folder/there/bin/trial-tools" "$folder/there/bin/dunekettle" "$folder/there/lib/dunekettle/bin/bedtools")
+stranded=$share/dunekettle/recipes/with-strand.sh
 while [ "$calls" -lt 400 ]; do
     calls=$((calls + 1))
-    for call in "$folder/there/bin/trial-tools" "$folder/there/bin/dunekettle" "$folder/there/lib/dunekettle/bin/bedtools"; do
+    for call in "${ours[@]}"; do
         [ "$(DUNEKETTLE_SMALL=0 "$call" merge -i "$folder/sorted.bed" 2>&1)" = "chr1	2	9" ] || broken=$((broken + 1))
     done
-    [ "$(PATH=$folder/there/bin:$PATH "$share/dunekettle/recipes/with-strand.sh" <(printf 'chr1\t2\t6\ta\t0\t+\n'))" = "chr1	2	6	a	0	+" ] || broken=$((broken + 1))
+    found=$(PATH=$folder/there/bin:$PATH "$stranded" <(printf 'chr1\t2\t6\ta\t0\t+\n') || true)
+    [ "$found" = "chr1	2	6	a	0	+" ] || broken=$((broken + 1))
 done
 touch "$folder/enough"
 wait "$installer"
@@ -153,12 +193,15 @@ expect "what is left of an installation" "$folder/there" "$(find "$folder/there"
 
 # A name comes from the command line alone, and no odd one is taken; all may read what root installs.
 for name in 'two words' 'a&b' "a'b" 'a"b' 'a|b' '-x' '..' 'a/b' "\$(touch $folder/hit)" dunekettle dunekettle-merge; do
-    expect "NAME=$name" "2 no" "$(make --silent install DESTDIR= PREFIX="$folder/named" "NAME=${name//\$/\$\$}" > "$folder/said.txt" 2>&1; echo $?) $([ -e "$folder/named" ] || echo no)"
+    status=0
+    make --silent install DESTDIR= PREFIX="$folder/named" "NAME=${name//\$/\$\$}" > "$folder/said.txt" 2>&1 || status=$?
+    expect "NAME=$name" "2 no" "$status $([ -e "$folder/named" ] || echo no)"
 done
 # shellcheck disable=SC2016
 odd=$folder/'named & |`touch hit`"2'
 (umask 077; NAME='from the environment' make --silent install DESTDIR= PREFIX="$odd")
-expect "the name of a program installed with another NAME in the environment" "dunekettle dunekettle-bedtools" "$(cd "$odd/bin" && echo *)"
+expect "the name of a program installed with another NAME in the environment" "dunekettle dunekettle-bedtools" \
+    "$(cd "$odd/bin" && echo *)"
 expect "what others can't read" "" "$(find "$odd" \( -type d ! -perm -5 -o -type f ! -perm -4 \) -print)"
 expect "a page's place" "yes" "$(grep -qF "${odd##*/}/share/doc/" "$odd/share/man/man1/dunekettle.1" && echo yes)"
 make --silent uninstall DESTDIR= PREFIX="$odd"
@@ -167,11 +210,14 @@ expect "what a name ran" "no no" "$([ -e "$folder/hit" ] || echo no) $([ -e hit 
 expect "licences and the SBOM" "0" "$(packaging/licences.py > "$folder/said.txt"; echo $?)"
 cat "$folder/said.txt"
 if has readelf; then
+    hardening() {
+        readelf -hW "$1" | sed -n 's/.*Type: *\([A-Z]*\).*/\1/p'
+        readelf -dW "$1" | grep -o 'BIND_NOW' | sed 's/BIND_//'
+        readelf -lW "$1" | sed -n 's/.*GNU_\(RELRO\) .*/\1/p; s/.*GNU_STACK .* \(RWE*\) .*/\1/p'
+    }
     for program in bin/bedtools bin/drop-in; do
-        expect "hardening of $program: any address, no table is written later, no stack is run" "DYN NOW RELRO RW" "$({
-            readelf -hW "$program" | sed -n 's/.*Type: *\([A-Z]*\).*/\1/p'
-            readelf -dW "$program" | grep -o 'BIND_NOW' | sed 's/BIND_//'
-            readelf -lW "$program" | sed -n 's/.*GNU_\(RELRO\) .*/\1/p; s/.*GNU_STACK .* \(RWE*\) .*/\1/p'; } | sort | paste -s -d ' ')"
+        expect "hardening of $program: any address, no table is written later, no stack is run" "DYN NOW RELRO RW" \
+            "$(hardening "$program" | sort | paste -s -d ' ')"
     done
 fi
 
@@ -185,25 +231,29 @@ expect "each file has one" "$(cd "$unpacked" && find . -type f | wc -l)" "$(($(w
 expect "the program in the tarball" "chr1	2	9" "$(records | "$unpacked/bin/dunekettle-bedtools" merge)"
 expect_front "$unpacked" "the tarball"
 expect "links of the tarball's pages that lead nowhere" "" "$(lost_links "$unpacked")"
-expect "licences in the tarball" "LICENSE copyright sbom.spdx.json" "$(cd "$unpacked/share/doc/dunekettle-bedtools" && echo LICENSE copyright* sbom*)"
+expect "licences in the tarball" "LICENSE copyright sbom.spdx.json" \
+    "$(cd "$unpacked/share/doc/dunekettle-bedtools" && echo LICENSE copyright* sbom*)"
 sum=$(cat "$tarball.sha256")
 make --silent dist > /dev/null
 expect "the same tarball once more" "$sum" "$(cat "$tarball.sha256")"
 
-# The same of a copy on another file system, by another owner, with another umask, and variables that choose a compressor.
+# The same of a copy on another file system, by another owner, with another umask, and variables that choose a
+# compressor.
 other=$(mktemp -d -p "$([ -w /dev/shm ] && echo /dev/shm || echo "$folder")")
 trap 'rm -rf "$folder" "$other"' EXIT
 cp -a . "$other/copy"
 [ "$(id -u)" != 0 ] || chown -R 65534 "$other"
 touch "$other/copy/bin/bedtools" "$other/copy/bin/drop-in"
 elsewhere() {
-    (umask 077; cd "$other/copy" && GZIP=-1 XZ_DEFAULTS=-0 XZ_OPT=-0 TAR_OPTIONS=--format=pax DPKG_DEB_COMPRESSOR_TYPE=gzip DPKG_DEB_THREADS_MAX=3 \
-        LC_ALL=C.UTF-8 TZ=Asia/Tokyo make --silent "$@" > "$folder/said.txt" 2>&1)
+    (umask 077; cd "$other/copy" && GZIP=-1 XZ_DEFAULTS=-0 XZ_OPT=-0 TAR_OPTIONS=--format=pax \
+        DPKG_DEB_COMPRESSOR_TYPE=gzip DPKG_DEB_THREADS_MAX=3 LC_ALL=C.UTF-8 TZ=Asia/Tokyo \
+        make --silent "$@" > "$folder/said.txt" 2>&1)
 }
 elsewhere dist
 expect "the same tarball elsewhere" "$sum" "$(cat "$other/copy/$tarball.sha256")"
 SOURCE_DATE_EPOCH=86400 make --silent dist > /dev/null
-expect "the date of SOURCE_DATE_EPOCH" "1970-01-02" "$(tar --full-time --utc -tvzf "$tarball" | awk '{ print $4 }' | sort -u)"
+expect "the date of SOURCE_DATE_EPOCH" "1970-01-02" \
+    "$(tar --full-time --utc -tvzf "$tarball" | awk '{ print $4 }' | sort -u)"
 
 if has dpkg-deb; then
     make --silent deb > "$folder/said.txt"
@@ -219,7 +269,8 @@ if has dpkg-deb; then
     expect "links of the package's pages that lead nowhere" "" "$(lost_links "$root/usr")"
     expect "bedtools beside it" "other" "$(cat "$root/usr/bin/bedtools")"
     expect "its files are whole" "" "$(cd "$root" && md5sum --quiet -c var/lib/dpkg/info/dunekettle-bedtools.md5sums)"
-    expect "completions where zsh of Debian looks" "_dunekettle _dunekettle-bedtools" "$(cd "$root/usr/share/zsh/vendor-completions" && echo *)"
+    expect "completions where zsh of Debian looks" "_dunekettle _dunekettle-bedtools" \
+        "$(cd "$root/usr/share/zsh/vendor-completions" && echo *)"
     sum=$(sha256sum < "$package")
     elsewhere deb
     expect "the same package elsewhere" "$sum" "$(sha256sum < "$other/copy/$package")"

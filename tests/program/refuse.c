@@ -1,15 +1,17 @@
-// Preloaded into the program by runs.py. It counts what is allocated. It refuses one growth of memory, or all from one on; hands over a line at
-// most at each read of a file; and lets reads fail behind so many lines, and writes behind so many bytes. A read or a
-// write that is tried again after it failed ends the program with status 99. What it is to do stands in the environment:
+// Preloaded into the program by runs.py. It counts what is allocated. It refuses one growth of memory, or all from one
+// on; hands over a line at most at each read of a file; and lets reads fail behind so many lines, and writes behind so
+// many bytes. A read or a write that is tried again after it failed ends the program with status 99. What it is to do
+// stands in the environment:
 //
 //   REFUSE_AT     the growth that is refused, counted from 1; none where it is missing
 //   REFUSE_ALL    whether all growths behind that one are refused too
 //   REFUSE_READS  files and numbers, as "a.bed 3 b.bed 1 ": behind so many lines of the file reading fails
 //   REFUSE_WRITES a number: behind so many bytes writing fails, but on standard error
-//   COUNT_NOTES   where it notes, as the program ends, how many growths there were, and how many bytes were allocated at
-//                 once, as "growths 12" and "most 4096" on a line each
-//   REFUSE_NOTES  where it notes, once a growth is refused, how many lines of each file were handed over, as "a.bed 3" and
-//                 a line feed; the file that was read last, of which the last line may be handed over in part, comes last
+//   COUNT_NOTES   where it notes, as the program ends, how many growths there were, and how many bytes were allocated
+//                 at once, as "growths 12" and "most 4096" on a line each
+//   REFUSE_NOTES  where it notes, once a growth is refused, how many lines of each file were handed over, as "a.bed 3"
+//                 and a line feed; the file that was read last comes last, of which the last line may be handed over
+//                 in part
 #include <errno.h>
 #include <fcntl.h>
 #include <malloc.h>

@@ -7,7 +7,8 @@ use Rattle.bt_bed.specs.model.Genome.{Entry}
 use Rattle.bt_bed.specs.declared.record.strand.Strand.{Strand}
 use Rattle.bt_runs.specs.model.Depth.{DepthInterval, coverage, depth_lines, is_counted_by}
 use Rattle.bt_runs.specs.calls.Complementing.{length_in}
-use Rattle.bt_tool.specs.model.Report.{Inputs, or_empty, order_in_use, report_of}
+use Rattle.bt_tool.specs.model.Report.{Inputs, report_of}
+use Rattle.bt_tool.specs.model.Behaviour.{or_empty, order_in_use}
 use Rattle.bt_tool.specs.declared.planning.plan_type.Command.TheVariants.{Coverage, Intersect, Subtract}
 use Rattle.bt_laws.specs.WholeRuns.{RunWrites, RunsWithoutFault, first_records, second_records}
 use Rattle.bt_sweep.specs.model.Hits.{hits_among}

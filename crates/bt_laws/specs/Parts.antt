@@ -13,12 +13,13 @@ use Rattle.bt_bed.specs.model.Genome.{Entry, genome_names}
 use Rattle.bt_runs.specs.declared.merge.merge_strand.MergeStrand.{MergeStrand}
 use Rattle.bt_sweep.specs.declared.hits.hit_rule.HitRule.{HitRule}
 use Rattle.bt_sweep.specs.declared.output.shape.Shape.{Shape}
-use Rattle.bt_tool.specs.model.Report.{order_in_use, chromosomes_of, report_of}
+use Rattle.bt_tool.specs.model.Report.{chromosomes_of, report_of}
+use Rattle.bt_tool.specs.model.Behaviour.{order_in_use}
 use Rattle.bt_tool.specs.declared.planning.plan_type.Command.{Command}
 use Rattle.bt_tool.specs.declared.planning.plan_type.Command.TheVariants.{BamToBed, Intersect, Merge, Subtract, Complement, Coverage, MaskFasta}
 use Rattle.bt_bed.specs.declared.record.strand.Strand.{Strand}
 use Rattle.bt_lines.specs.declared.fault.Kind.TheVariants.{NoSequence}
-use Rattle.bt_seq.specs.model.Masked.{is_sequence_header, name_in}
+use Rattle.bt_seq.specs.model.Fasta.{is_sequence_header, name_in}
 use Rattle.bt_seq.specs.calls.MaskState.{left_after}
 use Rattle.bt_seq.specs.declared.mask.mask_how.MaskHow.{MaskHow}
 

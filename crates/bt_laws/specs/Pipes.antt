@@ -3,7 +3,7 @@ use Rattle.std.specs.Prelude.{◌≡◌, ℕ, ◌<◌, ◌≤◌, Bool, not, Lis
 use Rattle.bt_lines.specs.model.Lines.{whole_text, Handed}
 use Rattle.bt_lines.specs.declared.fault.Input.{Input}
 use Rattle.bt_bed.specs.model.Feature.{Feature, Interval, intervals_of}
-use Rattle.bt_bed.specs.model.BedLine.{is_header, bed_text, cut_to, strand_named, strand_of, interval_lines, kept_columns, fault_at_line}
+use Rattle.bt_bed.specs.model.BedLine.{says_nothing, bed_text, cut_to, strand_named, strand_of, interval_lines, kept_columns, fault_at_line}
 use Rattle.bt_bed.specs.calls.Features.{columns_in}
 use Rattle.bt_bed.specs.model.Good.{items_in, bed_good, Good, good_handed}
 use Rattle.bt_bed.specs.model.Order.{Order, byte_order}
@@ -25,12 +25,14 @@ use Rattle.bt_runs.specs.model.Gaps.{complement}
 use Rattle.bt_runs.specs.model.Merged.{ordered_runs, places_of, strand_runs}
 use Rattle.bt_runs.specs.declared.merge.merge_strand.MergeStrand.{MergeStrand}
 use Rattle.bt_runs.specs.declared.merge.merge_strand.MergeStrand.TheVariants.{Each}
-use Rattle.bt_tool.specs.model.Report.{entries_in, order_in_use, Inputs, report_of}
+use Rattle.bt_tool.specs.model.Report.{Inputs, report_of}
+use Rattle.bt_tool.specs.model.Behaviour.{entries_in, order_in_use}
 use Rattle.bt_tool.specs.declared.planning.plan_type.Command.TheVariants.{Merge, Complement, Coverage, Intersect, Subtract, BamToBed}
 use Rattle.bt_laws.specs.WholeRuns.{RunsWithoutFault, first_records, second_records, piped, two_texts}
 use Rattle.bt_tool.specs.declared.planning.plan_type.Command.{Command}
 use Rattle.bt_lines.specs.declared.fault.Input.TheVariants.{First}
-use Rattle.bt_seq.specs.model.Alignment.{Alignment, read_name, strand_sign, sam_format}
+use Rattle.bt_seq.specs.model.Alignment.{Alignment, sam_format}
+use Rattle.bt_seq.specs.model.BedLines.{read_name, strand_sign}
 use Rattle.bt_lines.specs.declared.fault.Kind.TheVariants.{OutOfOrder}
 
 -- What a text is as an input of the next command, in an order of the chromosomes.
@@ -67,7 +69,7 @@ four_columns r = record {
 -- whether a record's line isn't skipped as a header: the name of a chromosome in a genome file may
 -- begin with the word `track` or `browser`, and a line of a BED file that does so says nothing
 abbrev pub is_no_header : Feature → Bool
-is_no_header r = not (is_header r.chrom)
+is_no_header r = not (says_nothing r.chrom)
 
 -- What the lines of intersect and subtract are read as: records of the first input, whole or cut, and what follows them.
 

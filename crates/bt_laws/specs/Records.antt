@@ -3,7 +3,7 @@ use Rattle.std.specs.Prelude.{◌≡◌, ℕ, ◌<◌, ◌≤◌, List, max, min
 use Rattle.bt_bed.specs.model.Feature.{Interval, Span, Feature, intervals_of, last_of}
 use Rattle.bt_bed.specs.calls.Orders.{AreNonEmpty, AreDistinct, AreContiguous}
 use Rattle.bt_bed.specs.model.Positions.{AreStretchesOf}
-use Rattle.bt_bed.specs.model.BedLine.{is_header, bed_text, record_of, IsBedKind}
+use Rattle.bt_bed.specs.model.BedLine.{says_nothing, bed_text, record_of, IsBedKind}
 use Rattle.bt_bed.specs.calls.Features.{IsFeature}
 use Rattle.bt_lines.specs.model.Lines.{Handed, text_lines, TextLine}
 use Rattle.bt_lines.specs.model.Fault.{FaultValue}
@@ -50,7 +50,7 @@ stretches_are_one =
 -- the bytes of a feature that a line can say (`IsFeature`) say it, unless they are a header line
 abbrev pub written_are_read : Type 0
 written_are_read =
-    (feature : Feature) → IsFeature feature → is_header (bed_text feature) ≡ false
+    (feature : Feature) → IsFeature feature → says_nothing (bed_text feature) ≡ false
     → record_of (bed_text feature) ≡ Ok (Some feature)
 
 -- what a line says is said by its bytes, written anew

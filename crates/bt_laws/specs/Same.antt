@@ -1,13 +1,14 @@
 -- The same bytes by another way.
 use Rattle.std.specs.Prelude.{◌≡◌, ◌≢◌, ◌==◌, ℕ, Bool, true, false, List, ◌∷◌, ◌++◌, Option, None, map, filter, nat_lt, IsPermutation, ◌≤◌, Some, [], flat_map, cond, min, decimal, replicate, ◌<◌, ◌||◌, ⊤, length, bytes_eq, codes}
 use Rattle.bt_bed.specs.model.Feature.{Feature, Interval, record_covers}
-use Rattle.bt_bed.specs.model.BedLine.{interval_lines, is_header, bed_text}
+use Rattle.bt_bed.specs.model.BedLine.{interval_lines, says_nothing, bed_text}
 use Rattle.bt_bed.specs.model.Genome.{Entry}
 use Rattle.bt_bed.specs.declared.record.strand.Strand.{Strand}
 use Rattle.bt_runs.specs.model.Depth.{DepthInterval, coverage, depth_lines}
 use Rattle.bt_runs.specs.model.Gaps.{complement}
 use Rattle.bt_runs.specs.calls.Complementing.{length_in}
-use Rattle.bt_tool.specs.model.Report.{entries_in, Inputs, report_of, order_in_use, or_empty}
+use Rattle.bt_tool.specs.model.Report.{Inputs, report_of}
+use Rattle.bt_tool.specs.model.Behaviour.{entries_in, order_in_use, or_empty}
 use Rattle.bt_runs.specs.declared.merge.merge_strand.MergeStrand.{MergeStrand}
 use Rattle.bt_runs.specs.declared.merge.merge_strand.MergeStrand.TheVariants.{All, Each}
 use Rattle.bt_tool.specs.declared.planning.plan_type.Command.{Command}
@@ -24,7 +25,9 @@ use Rattle.bt_lines.specs.model.Lines.{Handed, whole_text}
 use Rattle.bt_lines.specs.declared.fault.Input.TheVariants.{First, Second}
 use Rattle.bt_lines.specs.declared.reader.line.LineEnd.{LineEnd}
 use Rattle.bt_bed.specs.model.Good.{items_in, block_good}
-use Rattle.bt_seq.specs.model.Masked.{names_of_sequences, own_records, SequenceLine, bases_up_to, sequence_good}
+use Rattle.bt_seq.specs.model.Masked.{names_of_sequences}
+use Rattle.bt_seq.specs.model.Fasta.{SequenceLine, bases_up_to, sequence_good}
+use Rattle.bt_seq.specs.model.SequenceBlocks.{own_records}
 use Rattle.bt_seq.specs.declared.mask.mask_how.MaskHow.{MaskHow}
 use Rattle.bt_seq.specs.declared.mask.mask_how.MaskHow.TheVariants.{Soft, Hard}
 
@@ -171,7 +174,7 @@ abbrev pub complement_of_complement : Type 0
 complement_of_complement =
     (inputs : Inputs) (entries : List Entry)
     → RunsWithoutFault (Complement false) inputs (Some entries)
-    → AllByRecursion (λ entry. is_header entry.name ≡ false) entries
+    → AllByRecursion (λ entry. says_nothing entry.name ≡ false) entries
     → let runs = ordered_runs (order_in_use (Some entries)) 0 All (first_records (Some entries) inputs) in
     RunWrites (Merge 0 All) inputs (interval_lines runs)
     × RunWrites (Complement false) (piped (Complement false) inputs)

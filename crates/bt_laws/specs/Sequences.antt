@@ -2,7 +2,9 @@
 use Rattle.std.specs.Prelude.{◌≡◌, ℕ, ◌+◌, ◌<◌, ◌≤◌, Bool, true, not, List, [], ◌∷◌, ◌++◌, flat_map, Some, ◌&&◌, IsTrue, Option, None, ◌⊎◌, false, Result, Ok, ◌≢◌, ◌↔◌, All, length, ⊤, bytes_eq}
 use Rattle.std.specs.List.{list_all, last_or, AllByRecursion}
 use Rattle.bt_bed.specs.model.Feature.{Span, Feature}
-use Rattle.bt_seq.specs.model.Alignment.{Alignment, reference_length, Part, each_operation, is_letter, operations_in, alignment_blocks, blocks_of, is_skip, with_bases}
+use Rattle.bt_seq.specs.model.Alignment.{Alignment}
+use Rattle.bt_seq.specs.model.BedLines.{alignment_blocks, blocks_of, is_skip, with_bases}
+use Rattle.bt_seq.specs.model.Cigar.{reference_length, Part, each_operation, is_letter, operations_in}
 use Rattle.bt_seq.specs.calls.Alignments.{EndsAt}
 use Rattle.bt_seq.specs.declared.sam.cigar.Operation.{Operation}
 use Rattle.bt_lines.specs.model.Lines.{is_number, whole_text}
@@ -10,7 +12,9 @@ use Rattle.bt_bed.specs.model.Good.{Good, items_in, block_good}
 use Rattle.bt_bed.specs.calls.Orders.{AreInBlocks}
 use Rattle.bt_bed.specs.model.Meeting.{Rule, join_report, written, Report}
 use Rattle.bt_lines.specs.model.Fault.{FaultValue}
-use Rattle.bt_seq.specs.model.Masked.{line_decided, mask_rule, masked_line, SequenceLine, Block, blocks_by, names_behind, sequence_good, mask_met}
+use Rattle.bt_seq.specs.model.Masked.{line_decided, mask_rule, masked_line, mask_met}
+use Rattle.bt_seq.specs.model.Fasta.{SequenceLine, sequence_good}
+use Rattle.bt_seq.specs.model.SequenceBlocks.{Block, blocks_by, names_behind}
 use Rattle.bt_seq.specs.declared.mask.mask_how.MaskHow.{MaskHow}
 use Rattle.bt_seq.specs.calls.MaskStage.{MaskStage, held_for_line}
 use Rattle.bt_seq.specs.calls.MaskState.{Masking, left_after}

@@ -5,7 +5,8 @@ use Rattle.bt_lines.specs.declared.fault.Input.TheVariants.{First, Second}
 use Rattle.bt_bed.specs.model.Feature.{Feature}
 use Rattle.bt_bed.specs.model.Good.{items_in, bed_good}
 use Rattle.bt_bed.specs.model.Genome.{Entry}
-use Rattle.bt_tool.specs.model.Report.{order_in_use, Inputs, or_empty, chromosomes_of, report_of}
+use Rattle.bt_tool.specs.model.Report.{Inputs, chromosomes_of, report_of}
+use Rattle.bt_tool.specs.model.Behaviour.{order_in_use, or_empty}
 use Rattle.bt_tool.specs.declared.planning.plan_type.Command.{Command}
 
 -- a run without a fault, by the chromosomes of its genome file, or without one

@@ -10,7 +10,7 @@ use Rattle.bt_bed.specs.model.Order.{byte_order}
 use Rattle.bt_sweep.specs.declared.hits.hit_rule.HitRule.{HitRule}
 use Rattle.bt_tool.specs.model.Report.{Inputs, report, report_of}
 use Rattle.bt_tool.specs.model.Table.{Word}
-use Rattle.bt_tool.specs.model.Written.{intersect_reaches, mask_reaches}
+use Rattle.bt_tool.specs.model.Reaches.{intersect_reaches, mask_reaches}
 use Rattle.bt_tool.specs.declared.planning.plan_type.Command.{Command}
 use Rattle.bt_tool.specs.declared.planning.plan_type.Command.TheVariants.{BamToBed}
 

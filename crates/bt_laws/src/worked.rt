@@ -44,7 +44,7 @@ pub fn strands()
 
 /// Marks of segments (SAM specification, section 1.4, FLAG: 0x40 the first segment of the template, 0x80 the last one, 0x10
 /// reversed, 0x4 unmapped), and what CIGARs cover (there, field 6).
-#[tactic(auto, unfolding(bt_tool::specs::model::Report::report_of, bt_lines::specs::model::Lines::lines_from, bt_lines::specs::model::Lines::value_of, bt_bed::specs::model::Good::good_after, bt_bed::specs::model::Good::line_says, bt_bed::specs::model::BedLine::record_of, bt_seq::specs::model::Alignment::alignment_of, bt_seq::specs::model::Alignment::fields_say, bt_seq::specs::model::Alignment::blocks_of, bt_seq::specs::model::Alignment::operations_in))]
+#[tactic(auto, unfolding(bt_tool::specs::model::Report::report_of, bt_lines::specs::model::Lines::lines_from, bt_lines::specs::model::Lines::value_of, bt_bed::specs::model::Good::good_after, bt_bed::specs::model::Good::line_says, bt_bed::specs::model::BedLine::record_of, bt_seq::specs::model::Alignment::alignment_of, bt_seq::specs::model::Alignment::fields_say, bt_seq::specs::model::BedLines::blocks_of, bt_seq::specs::model::Cigar::operations_in))]
 pub fn alignments()
     ensures neither { IsNamed (codes "0") (codes "r") (codes "+") }
     ensures first { IsNamed (codes "64") (codes "r/1") (codes "+") }
@@ -97,7 +97,7 @@ pub fn reaches()
 {}
 
 /// Hits and their shapes (bedtools manual, intersect).
-#[tactic(auto, unfolding(bt_tool::specs::model::Report::report_of, bt_lines::specs::model::Lines::lines_from, bt_lines::specs::model::Lines::value_of, bt_bed::specs::model::Good::good_after, bt_bed::specs::model::Good::line_says, bt_bed::specs::model::BedLine::record_of, bt_sweep::specs::model::Lines::lines_for, bt_sweep::specs::model::Hits::is_hit, bt_sweep::specs::model::Hits::strands_agree, bt_sweep::specs::model::Hits::is_enough, bt_sweep::specs::model::Hits::has_fraction, bt_bed::specs::model::Genome::genome_from, bt_bed::specs::model::Genome::entry_of))]
+#[tactic(auto, unfolding(bt_tool::specs::model::Report::report_of, bt_lines::specs::model::Lines::lines_from, bt_lines::specs::model::Lines::value_of, bt_bed::specs::model::Good::good_after, bt_bed::specs::model::Good::line_says, bt_bed::specs::model::BedLine::record_of, bt_sweep::specs::model::Lines::lines_for, bt_sweep::specs::model::Hits::is_hit, bt_sweep::specs::model::Hits::strands_agree, bt_sweep::specs::model::Hits::is_enough, bt_sweep::specs::model::Hits::has_fraction, bt_bed::specs::model::Genome::entry_of))]
 pub fn hits()
     ensures bookended { Writes (Command.Intersect Shape.Cut (by_fraction 0 false) None)
         (two_texts (codes "c\t10\t20\n") (codes "c\t20\t30\n")) [] }
@@ -170,7 +170,7 @@ pub fn pieces()
 {}
 
 /// Runs (bedtools manual, merge, options -d, -s and -S).
-#[tactic(auto, unfolding(bt_tool::specs::model::Report::report_of, bt_lines::specs::model::Lines::lines_from, bt_lines::specs::model::Lines::value_of, bt_bed::specs::model::Good::good_after, bt_bed::specs::model::Good::line_says, bt_bed::specs::model::BedLine::record_of, bt_bed::specs::calls::Stretches::stretches_from, bt_bed::specs::calls::Stretches::with_position, bt_runs::specs::model::Merged::is_bridged, bt_runs::specs::model::Merged::runs_of, bt_runs::specs::model::Merged::merged, bt_runs::specs::model::Merged::ordered_runs, bt_runs::specs::model::Merged::strand_runs, bt_runs::specs::model::Merged::settled_strand_runs, bt_bed::specs::model::Genome::genome_from, bt_bed::specs::model::Genome::entry_of))]
+#[tactic(auto, unfolding(bt_tool::specs::model::Report::report_of, bt_lines::specs::model::Lines::lines_from, bt_lines::specs::model::Lines::value_of, bt_bed::specs::model::Good::good_after, bt_bed::specs::model::Good::line_says, bt_bed::specs::model::BedLine::record_of, bt_bed::specs::calls::Stretches::stretches_from, bt_bed::specs::calls::Stretches::with_position, bt_runs::specs::model::Merged::is_bridged, bt_runs::specs::model::Merged::runs_of, bt_runs::specs::model::Merged::merged, bt_runs::specs::model::Merged::ordered_runs, bt_runs::specs::model::Merged::strand_runs, bt_runs::specs::model::Merged::settled_strand_runs, bt_bed::specs::model::Genome::entry_of))]
 pub fn merges()
     ensures touching { Writes (Command.Merge 0 MergeStrand.All) (one_text (codes "c\t1\t3\nc\t2\t4\nc\t4\t6\nc\t7\t9\n")) (codes "c\t1\t6\nc\t7\t9\n") }
     ensures across_a_gap { Writes (Command.Merge 1 MergeStrand.All) (one_text (codes "c\t1\t3\nc\t4\t6\nc\t8\t9\n")) (codes "c\t1\t6\nc\t8\t9\n") }
@@ -314,7 +314,7 @@ pub fn runs()
 {}
 
 /// What options mean, by what they make a command write (bedtools manual, intersect and maskfasta).
-#[tactic(auto, unfolding(bt_tool::specs::model::Report::report_of, bt_lines::specs::model::Lines::lines_from, bt_lines::specs::model::Lines::value_of, bt_bed::specs::model::Good::good_after, bt_bed::specs::model::Good::line_says, bt_bed::specs::model::BedLine::record_of, bt_bed::specs::calls::Stretches::stretches_from, bt_bed::specs::calls::Stretches::with_position, bt_runs::specs::model::Merged::is_bridged, bt_runs::specs::model::Merged::runs_of, bt_runs::specs::model::Merged::merged, bt_runs::specs::model::Merged::ordered_runs, bt_runs::specs::model::Merged::strand_runs, bt_runs::specs::model::Merged::settled_strand_runs, bt_bed::specs::model::Genome::genome_from, bt_bed::specs::model::Genome::entry_of, bt_sweep::specs::model::Lines::lines_for, bt_sweep::specs::model::Hits::is_hit, bt_sweep::specs::model::Hits::strands_agree, bt_sweep::specs::model::Hits::is_enough, bt_sweep::specs::model::Hits::has_fraction, bt_tool::specs::model::Report::report, bt_tool::specs::model::Options::options, bt_tool::specs::model::Options::word_fault, bt_tool::specs::model::Usage::items_of, bt_tool::specs::model::Fraction::fraction_in))]
+#[tactic(auto, unfolding(bt_tool::specs::model::Report::report_of, bt_lines::specs::model::Lines::lines_from, bt_lines::specs::model::Lines::value_of, bt_bed::specs::model::Good::good_after, bt_bed::specs::model::Good::line_says, bt_bed::specs::model::BedLine::record_of, bt_bed::specs::calls::Stretches::stretches_from, bt_bed::specs::calls::Stretches::with_position, bt_runs::specs::model::Merged::is_bridged, bt_runs::specs::model::Merged::runs_of, bt_runs::specs::model::Merged::merged, bt_runs::specs::model::Merged::ordered_runs, bt_runs::specs::model::Merged::strand_runs, bt_runs::specs::model::Merged::settled_strand_runs, bt_bed::specs::model::Genome::entry_of, bt_sweep::specs::model::Lines::lines_for, bt_sweep::specs::model::Hits::is_hit, bt_sweep::specs::model::Hits::strands_agree, bt_sweep::specs::model::Hits::is_enough, bt_sweep::specs::model::Hits::has_fraction, bt_tool::specs::model::Report::report, bt_tool::specs::model::Options::options, bt_tool::specs::model::Options::word_fault, bt_tool::specs::model::Usage::items_of, bt_tool::specs::model::Fraction::fraction_in))]
 pub fn meanings()
     ensures once { Shows (codes "intersect" ∷ codes "-a" ∷ codes "a" ∷ codes "-b" ∷ codes "b" ∷ codes "-u" ∷ []) [] (codes "c\t0\t9\nc\t20\t30\n") (codes "c\t2\t4\nc\t5\t6\n")
         (codes "c\t0\t9\n") None 0 }
@@ -345,7 +345,7 @@ pub fn meanings()
 {}
 
 /// Texts of which reading failed: a piece that was cut off is no line.
-#[tactic(auto, unfolding(bt_lines::specs::model::Lines::whole_lines_from, bt_tool::specs::model::Report::report_of, bt_lines::specs::model::Lines::lines_from, bt_lines::specs::model::Lines::value_of, bt_bed::specs::model::Good::good_after, bt_bed::specs::model::Good::line_says, bt_bed::specs::model::BedLine::record_of, bt_bed::specs::calls::Stretches::stretches_from, bt_bed::specs::calls::Stretches::with_position, bt_runs::specs::model::Merged::is_bridged, bt_runs::specs::model::Merged::runs_of, bt_runs::specs::model::Merged::merged, bt_runs::specs::model::Merged::ordered_runs, bt_runs::specs::model::Merged::strand_runs, bt_runs::specs::model::Merged::settled_strand_runs, bt_bed::specs::model::Genome::genome_from, bt_bed::specs::model::Genome::entry_of))]
+#[tactic(auto, unfolding(bt_lines::specs::model::Lines::whole_lines_from, bt_tool::specs::model::Report::report_of, bt_lines::specs::model::Lines::lines_from, bt_lines::specs::model::Lines::value_of, bt_bed::specs::model::Good::good_after, bt_bed::specs::model::Good::line_says, bt_bed::specs::model::BedLine::record_of, bt_bed::specs::calls::Stretches::stretches_from, bt_bed::specs::calls::Stretches::with_position, bt_runs::specs::model::Merged::is_bridged, bt_runs::specs::model::Merged::runs_of, bt_runs::specs::model::Merged::merged, bt_runs::specs::model::Merged::ordered_runs, bt_runs::specs::model::Merged::strand_runs, bt_runs::specs::model::Merged::settled_strand_runs, bt_bed::specs::model::Genome::entry_of))]
 pub fn cut_texts()
     ensures after_three_lines { CutTo (Command.Merge 0 MergeStrand.All) (codes "c\t1\t3\nc\t2\t4\nc\t4\t6\n") [] 4 }
     ensures within_a_line { CutTo (Command.Merge 0 MergeStrand.All) (codes "c\t0\t3\nc\t6\t8\nc\t9\t12") (codes "c\t0\t3\n") 3 }

@@ -46,6 +46,7 @@ pub use fault::faults::{no_memory, write_failed};
 pub use fault::report::{Names, fault_line};
 pub use fault::{Fault, Input, Kind, Place};
 pub use numbers::number_column::{COLUMN, write_column};
+pub use numbers::short_number::{long_number, short_number};
 pub use numbers::{MAX_NUMBER, eight_digits, few_digits, number};
 pub use reader::buffered_lines::{
     BufferedLines, ConsumedLines, LineText, ends_with_return, without_return,

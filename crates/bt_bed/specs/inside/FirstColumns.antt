@@ -4,7 +4,7 @@ use Rattle.std.specs.Char.{is_ascii_digit}
 use Rattle.std.specs.List.{All, list_all}
 use Rattle.std.specs.Str.Parse.{digits_value}
 use Rattle.bt_lines.specs.model.Lines.{value_of}
-use Rattle.bt_bed.specs.model.BedLine.{is_header}
+use Rattle.bt_bed.specs.model.BedLine.{says_nothing}
 use Rattle.bt_bed.specs.calls.Features.{IsName}
 use Rattle.bt_bed.specs.declared.record.raw_record.ParsedNumber.{ParsedNumber}
 use Rattle.std.specs.Int.{from_le_bytes, w64}
@@ -28,7 +28,7 @@ BeginsWithName text name = text ≡ name ++ 9 ∷ drop (length name + 1) text
 -- a name with which a record's line can begin: no line that begins with it and a tab is a header
 pub record IsRecordName (name : List ℕ) : Type 0 where
   pub named : IsName name
-  pub no_header : (rest : List ℕ) → is_header (name ++ 9 ∷ rest) ≡ false
+  pub no_header : (rest : List ℕ) → says_nothing (name ++ 9 ∷ rest) ≡ false
 
 -- the first column ends here
 pub record EndsFirst (text : List ℕ) (end : ℕ) : Type 0 where
@@ -56,7 +56,7 @@ pub record SaysBounds (text name : List ℕ) (start stop : ParsedNumber) : Type 
   pub named : EndsName text (length name)
   pub chrom : take (length name) text ≡ name
   pub bounds : AreBounds text (length name) start stop
-  pub no_header : is_header text ≡ false
+  pub no_header : says_nothing text ≡ false
 
 -- `lead.end` digits come first, at most twelve, and denote the number
 pub record BeginsWith (text : List ℕ) (lead : ParsedNumber) : Type 0 where

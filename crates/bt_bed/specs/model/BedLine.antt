@@ -28,9 +28,9 @@ is_header_word word = bytes_eq word (codes "track") || bytes_eq word (codes "bro
 
 -- whether a text says nothing: it is empty, or a header line, which begins with `#` or has `track`
 -- or `browser` as its first word
-abbrev pub is_header : List ℕ → Bool
-is_header [] = true
-is_header (byte ∷ bytes) = (byte == 35) || is_header_word (first_word (byte ∷ bytes))
+abbrev pub says_nothing : List ℕ → Bool
+says_nothing [] = true
+says_nothing (byte ∷ bytes) = (byte == 35) || is_header_word (first_word (byte ∷ bytes))
 
 -- The lines that intervals are written as: columns with tabs between them (UCSC BED description,
 -- fields chrom, chromStart and chromEnd).
@@ -123,7 +123,7 @@ not_skipped (Err kind) = Err kind
 
 -- what a line's text says
 unfoldable pub record_of : List ℕ → Result (Option Feature) Kind
-record_of text = if is_header text then Ok None else not_skipped (columns_say (pieces 9 text))
+record_of text = if says_nothing text then Ok None else not_skipped (columns_say (pieces 9 text))
 
 -- the bytes of a record, without a line end: start and end without leading zeros,
 -- and the kept columns as they are

@@ -77,7 +77,7 @@ shared a b = cond (bytes_eq a.chrom b.chrom) (min a.stop b.stop - max a.start b.
 abbrev pub covers : ℕ → Span → Bool
 covers p s = nat_le s.start p && nat_lt p s.stop
 
--- whether a feature has it, on its chromosome
+-- whether a feature has it, on whatever chromosome that is
 abbrev pub record_covers : ℕ → Feature → Bool
 record_covers p r = covers p (span_of (interval_of r))
 

@@ -3,11 +3,12 @@
 -- with `#` are skipped (bedtools manual, genome file format).
 use Rattle.std.specs.Prelude.{ℕ, Bool, true, ◌==◌, List, [], ◌∷◌, ◌++◌, map, Option, Some, None, Result, Ok, Err, if◌then◌else◌}
 use Rattle.bt_lines.specs.model.Fault.{FaultValue}
-use Rattle.bt_lines.specs.model.Lines.{Handed, cut_fault, lines_handed, TextLine, pieces, value_of}
+use Rattle.bt_lines.specs.model.Lines.{Handed, TextLine, cut_fault, lines_handed, pieces, value_of}
 use Rattle.bt_lines.specs.declared.fault.Input.{Input}
 use Rattle.bt_lines.specs.declared.fault.Kind.{Kind}
 use Rattle.bt_lines.specs.declared.fault.Kind.TheVariants.{TooFewColumns, EmptyName, BadLength, RepeatedChrom}
-use Rattle.bt_bed.specs.model.BedLine.{fault_at_line, not_skipped}
+use Rattle.bt_bed.specs.model.BedLine.{not_skipped}
+use Rattle.bt_bed.specs.model.Good.{Format, Good, good, items_in}
 use Rattle.bt_bed.specs.model.Order.{is_among}
 
 -- a chromosome's name and its length
@@ -48,28 +49,26 @@ new_entry names (Ok None) = Ok None
 new_entry names (Ok (Some entry)) = if is_among names entry.name then Err RepeatedChrom else Ok
     (Some entry)
 
--- an entry before others, if these have no fault
-abbrev pub with_entry : Entry → Result (List Entry) FaultValue → Result (List Entry) FaultValue
-with_entry entry (Ok entries) = Ok (entry ∷ entries)
-with_entry entry (Err fault) = Err fault
+-- entries, of which the names that come before are known
+abbrev pub genome_format : Format Entry (List (List ℕ))
+genome_format = record {
+  begin = [];
+  says = λ names line. new_entry names (entry_of line.text);
+  after = λ names entry. names ++ entry.name ∷ [];
+}
 
--- what a line says after these names, and then what the lines after it say
-abbrev pub genome_with : Input → ℕ → List (List ℕ) → Result (Option Entry) Kind →
-    (List (List ℕ) → Result (List Entry) FaultValue) → Result (List Entry) FaultValue
-genome_with input line names (Err kind) rest = Err (fault_at_line input line kind)
-genome_with input line names (Ok None) rest = rest names
-genome_with input line names (Ok (Some entry)) rest = with_entry entry
-    (rest (names ++ entry.name ∷ []))
+-- entries, or the fault if there is one
+abbrev pub entries_unless : Option FaultValue → List Entry → Result (List Entry) FaultValue
+entries_unless None entries = Ok entries
+entries_unless (Some fault) entries = Err fault
 
--- the entries of the lines after these names, or the fault of the first line at fault
-unfoldable pub genome_from : Input → List (List ℕ) → List TextLine → Result (List Entry) FaultValue
-genome_from input names [] = Ok []
-genome_from input names (line ∷ lines) = genome_with input line.number names
-    (new_entry names (entry_of line.text)) (λ now. genome_from input now lines)
+-- all entries, or the first line's fault
+abbrev pub all_or_fault : Good Entry → Result (List Entry) FaultValue
+all_or_fault good = entries_unless good.fault (items_in good)
 
 -- the entries of a genome file, or the fault of its first line at fault
 abbrev pub genome_of : Input → List TextLine → Result (List Entry) FaultValue
-genome_of input lines = genome_from input [] lines
+genome_of input lines = all_or_fault (good genome_format input lines)
 
 -- the entries, or the first fault, or else this one, if there is one
 abbrev pub genome_cut : Option FaultValue → Result (List Entry) FaultValue → Result (List Entry) FaultValue

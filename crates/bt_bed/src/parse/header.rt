@@ -2,12 +2,12 @@
 
 ghost use Rattle.std.specs.Prelude.{◌≡◌, false, bytes_eq};
 ghost use Rattle.std.specs.List.{All};
-ghost use Rattle.bt_bed.specs.model.BedLine.{ends_word, first_word, is_header};
+ghost use Rattle.bt_bed.specs.model.BedLine.{ends_word, first_word, says_nothing};
 
 /// Whether a line is blank or a header: a comment, or a line whose first word is `track` or `browser`
 /// (UCSC custom tracks description). A space or a tab ends the word, and `trackX` is another one.
-pub(crate) fn is_header(text: &[u8]) -> bool
-    ensures { result ≡ is_header text.now }
+pub(crate) fn says_nothing(text: &[u8]) -> bool
+    ensures { result ≡ says_nothing text.now }
 {
     match text {
         [] | [b'#', ..] => true,
@@ -52,7 +52,7 @@ pub(crate) mod tests {
     // Whether all of these lines are headers, or none.
     fn are_headers(lines: &[&[u8]], want: bool) -> bool {
         for line in lines {
-            if is_header(line) != want {
+            if says_nothing(line) != want {
                 return false;
             }
         }

@@ -5,7 +5,7 @@ ghost use Rattle.bt_bed.specs.calls.Bed.{feature_between, record_seen};
 ghost use Rattle.bt_bed.specs.model.BedLine.{feature_of, record_of};
 ghost use Rattle.bt_lines.specs.model.Lines.{pieces, value_of};
 
-use crate::parse::header::is_header;
+use crate::parse::header::says_nothing;
 use crate::record::bed::BedRef;
 use crate::record::kept_strand::{behind, kept_strand};
 use crate::record::strand::Strand;
@@ -21,7 +21,7 @@ pub fn parse_bed(text: &[u8]) -> Result<Option<BedRef<'_>>, Kind>
     ensures suffix { IfOk result (λ said. IfSome said (λ bed. (length bed.rest.now ≤ length text.now)
         × (drop (length text.now - length bed.rest.now) text.now ≡ bed.rest.now))) }
 {
-    if is_header(text) {
+    if says_nothing(text) {
         return Ok(None);
     }
     let mut columns = columns(text);

@@ -3,7 +3,7 @@
 ghost use Rattle.std.specs.Prelude.{◌≡◌, IsTrue, Ok, Some, false, get_or, length};
 ghost use Rattle.std.specs.Io.BufRead.{strip_last};
 ghost use Rattle.bt_bed.specs.inside.FirstColumns.{AreBounds, EndsName};
-ghost use Rattle.bt_bed.specs.model.BedLine.{is_header};
+ghost use Rattle.bt_bed.specs.model.BedLine.{says_nothing};
 
 use crate::record::bed::BedRef;
 use crate::record::kept_strand::{behind, kept_strand};
@@ -29,7 +29,7 @@ pub struct RawRecord<'a> {
     pub(crate) stop: ParsedNumber,
     ghost named: { EndsName (strip_last 13 line.now) name },
     ghost bounds: { AreBounds (strip_last 13 line.now) name start stop },
-    ghost no_header: { is_header (strip_last 13 line.now) ≡ false },
+    ghost no_header: { says_nothing (strip_last 13 line.now) ≡ false },
 }
 
 #[tactic(auto, unfolding(crate::specs::calls::Bed::text_in, crate::specs::calls::Bed::raw_in, crate::specs::calls::Bed::record_in, crate::specs::calls::Bed::kept_in))]

@@ -24,7 +24,7 @@ use Rattle.bt_sweep.specs.calls.LineLaws.{spans_of}
 use Rattle.bt_sweep.specs.declared.hits.hit_rule.HitRule.{HitRule}
 use Rattle.bt_sweep.specs.declared.output.shape.Shape.TheVariants.{OrigBoth, Cut, Pieces}
 use Rattle.bt_sweep.proofs.lemmas.definitions.HitLemmas.{enough_of_nothing}
-use Rattle.bt_tool.specs.model.Report.{order_in_use, or_empty}
+use Rattle.bt_tool.specs.model.Behaviour.{order_in_use, or_empty}
 use Rattle.bt_tool.specs.declared.planning.plan_type.Command.TheVariants.{Intersect, Subtract}
 use Rattle.bt_laws.proofs.lemmas.same.SameSweeps.{writes_lines, met_faultless, other_input, sweeps_from, other_shape, hit_back, hit_to}
 use Rattle.bt_runs.specs.model.Merged.{is_covered}

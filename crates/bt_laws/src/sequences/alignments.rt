@@ -1,7 +1,9 @@
 //! Laws of alignments and of their blocks.
 
 ghost use Rattle.std.specs.Prelude.{◌≡◌, [], ◌∷◌, Some, None, Ok, Err, codes, true, false};
-ghost use Rattle.bt_seq.specs.model.Alignment.{alignment_of, blocks_in, cigar_length, operations_of};
+ghost use Rattle.bt_seq.specs.model.Alignment.{alignment_of};
+ghost use Rattle.bt_seq.specs.model.BedLines.{blocks_in};
+ghost use Rattle.bt_seq.specs.model.Cigar.{cigar_length, operations_of};
 ghost use Rattle.bt_seq.specs.calls.Alignments.{sam_kinds_are_of_lines, wrong_have_sam_kinds};
 ghost use Rattle.bt_laws.specs.Sequences.{blocks_are_within, unskipped_are_one_block, division_is_found, division_is_one, operations_are_divided};
 
@@ -17,7 +19,7 @@ pub fn cigars_are_divided_in_one_way()
 {}
 
 /// The reference lengths of small CIGARs.
-#[tactic(auto, unfolding(bt_seq::specs::model::Alignment::operations_in, bt_lines::specs::model::Lines::value_of))]
+#[tactic(auto, unfolding(bt_seq::specs::model::Cigar::operations_in, bt_lines::specs::model::Lines::value_of))]
 pub fn lengths_of_small_cigars()
     ensures star { cigar_length (codes "*") ≡ Some 0 }
     ensures empty { cigar_length [] ≡ None }
@@ -30,7 +32,7 @@ pub fn lengths_of_small_cigars()
 {}
 
 /// What small texts say.
-#[tactic(auto, unfolding(bt_seq::specs::model::Alignment::alignment_of, bt_seq::specs::model::Alignment::fields_say, bt_seq::specs::model::Alignment::operations_in, bt_lines::specs::model::Lines::value_of))]
+#[tactic(auto, unfolding(bt_seq::specs::model::Alignment::alignment_of, bt_seq::specs::model::Alignment::fields_say, bt_seq::specs::model::Cigar::operations_in, bt_lines::specs::model::Lines::value_of))]
 pub fn alignments_of_small_texts()
     ensures blank { alignment_of [] ≡ Ok None }
     ensures header { alignment_of (codes "@HD\tVN:1.6") ≡ Ok None }
@@ -48,7 +50,7 @@ pub fn alignments_of_small_texts()
 {}
 
 /// The blocks of small CIGARs.
-#[tactic(auto, unfolding(bt_seq::specs::model::Alignment::blocks_of, bt_seq::specs::model::Alignment::operations_in, bt_lines::specs::model::Lines::value_of))]
+#[tactic(auto, unfolding(bt_seq::specs::model::BedLines::blocks_of, bt_seq::specs::model::Cigar::operations_in, bt_lines::specs::model::Lines::value_of))]
 pub fn blocks_of_small_cigars()
     ensures one_skip { blocks_in 15 (operations_of (codes "6M14N5M"))
         ≡ record { start = 15; stop = 21 } ∷ record { start = 35; stop = 40 } ∷ [] }

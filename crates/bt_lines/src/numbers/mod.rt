@@ -1,6 +1,7 @@
 //! Numbers in decimal.
 
 pub(crate) mod number_column;
+pub(crate) mod short_number;
 
 ghost use Rattle.std.specs.Prelude.{◌≡◌, ◌<◌, ◌≤◌, ℕ, List, false, get_or, length, map, take, true};
 ghost use Rattle.std.specs.Char.{is_ascii_digit};

@@ -5,7 +5,8 @@ use Rattle.bt_lines.specs.model.Fault.{FaultValue}
 use Rattle.bt_lines.specs.calls.Output.{Output, Adds, FailsToAdd, FailsToPut, Grown, Puts, PutsAll}
 use Rattle.bt_lines.specs.declared.fault.Fault.{Fault}
 use Rattle.bt_lines.proofs.lemmas.Writer.{cut_off, adds_some, fails_before, fails_then, grown_all, grown_more, puts_more}
-use Rattle.bt_seq.specs.model.Alignment.{Alignment, bed_line, text_if}
+use Rattle.bt_seq.specs.model.Alignment.{Alignment}
+use Rattle.bt_seq.specs.model.BedLines.{bed_line, text_if}
 use Rattle.bt_seq.specs.calls.Sam.{span_given}
 use Rattle.bt_seq.specs.inside.Sam.{bounds_text, line_tail, marks, quality_text}
 

@@ -1,14 +1,17 @@
 -- Lemmas on SAM lines and on blocks.
 use Rattle.bt_lines.proofs.Std.{common_steps, ◌≡◌, ℕ, ◌+◌, ◌≤◌, Bool, true, false, List, [], ◌∷◌, ◌++◌, length, Option, Some, None, refl, sym, ap, ◌∙◌, arith, cond, append-nil, add-zero, flat_map, false≢true, nat_tests, sum_by_push, ◌<◌, take, drop, get_or, length-append, length-take, IfSome, is_ascii_digit, list_all, list_all_more, digits_value, and_parts, take-append-drop, take_more, drop_more, take-append-le, get_or_append_left, take_all, ◌-◌, zero, suc, min, ◌||◌, map, list_any, list_any-append, Ok, Err, nat_le, bytes_decides, ⊤, flat_map-append}
 use Rattle.bt_bed.specs.model.Feature.{Span, Feature, record_covers}
-use Rattle.bt_seq.specs.model.Alignment.{begins_block, block_at, blocks_in, blocks_of, cuts, is_skip, up_to_skip, with_bases, covered_by, operations_in, reference_length, with_operation, Part, is_letter, onto_part, operation_of, each_operation, parts_of, Fields, alignment_of, sam_columns_say, fields_of, fields_say, is_skipped_sam, is_sam_kind}
+use Rattle.bt_seq.specs.model.Alignment.{Fields, alignment_of, sam_columns_say, fields_of, fields_say, is_skipped_sam, is_sam_kind}
+use Rattle.bt_seq.specs.model.BedLines.{begins_block, block_at, blocks_in, blocks_of, cuts, is_skip, up_to_skip, with_bases}
+use Rattle.bt_seq.specs.model.Cigar.{covered_by, operations_in, reference_length, with_operation, Part, is_letter, onto_part, operation_of, each_operation, parts_of}
 use Rattle.bt_seq.specs.calls.Alignments.{span_with, sam_kinds_are_of_lines, wrong_have_sam_kinds}
 use Rattle.bt_seq.specs.inside.Sam.{none_left, FitBehind}
 use Rattle.bt_seq.specs.declared.sam.cigar.Operation.{Operation}
 use Rattle.std.specs.Prelude.{option_and_then}
 use Rattle.bt_lines.proofs.lemmas.numbers.NumberLemmas.{value_of_digits, value_of_empty, value_of_large, value_of_other}
 use Rattle.bt_lines.specs.model.Lines.{value_of, pieces}
-use Rattle.bt_seq.specs.model.Masked.{masked_byte, masked_from, Block, Owned, block_decides, block_with, blocks_by, items_if_last, left_by, own_records, owned, owned_from}
+use Rattle.bt_seq.specs.model.Masked.{masked_byte, masked_from}
+use Rattle.bt_seq.specs.model.SequenceBlocks.{Block, Owned, block_decides, block_with, blocks_by, items_if_last, left_by, own_records, owned, owned_from}
 use Rattle.bt_seq.specs.declared.mask.mask_how.MaskHow.{MaskHow}
 use Rattle.bt_lines.specs.declared.fault.Kind.{Kind}
 use Rattle.bt_seq.proofs.lemmas.definitions.KnowsLemmas.{is_last, leave}

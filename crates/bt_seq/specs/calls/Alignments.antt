@@ -3,7 +3,8 @@ use Rattle.std.specs.Prelude.{◌≡◌, ℕ, ◌+◌, List, min, Option, Some, 
 use Rattle.bt_lines.specs.declared.fault.Kind.{Kind}
 use Rattle.bt_bed.specs.calls.Reading.{is_of_line}
 use Rattle.bt_seq.specs.declared.sam.cigar.Operation.{Operation}
-use Rattle.bt_seq.specs.model.Alignment.{reference_length, cigar_length, alignment_of, is_sam_kind}
+use Rattle.bt_seq.specs.model.Alignment.{alignment_of, is_sam_kind}
+use Rattle.bt_seq.specs.model.Cigar.{reference_length, cigar_length}
 
 -- the smaller of a reference length, with `more` bases beside it, and a million million
 abbrev pub span_with : ℕ → Option (List Operation) → Option ℕ

@@ -3,7 +3,9 @@ use Rattle.std.specs.Prelude.{◌≡◌, ℕ, ◌&&◌, not, Bool, true, false, 
 use Rattle.std.specs.List.{last_or, list_all}
 use Rattle.bt_bed.specs.model.Feature.{Feature}
 use Rattle.bt_bed.specs.model.BedLine.{fault_at_line}
-use Rattle.bt_seq.specs.model.Masked.{is_sequence_header, line_decided, is_unnamed, Reached, SequenceLine, bases_up_to, masked_from, masked_line, sequence_says, masked_text, no_sequence, own_records}
+use Rattle.bt_seq.specs.model.Masked.{line_decided, is_unnamed, masked_from, masked_line, masked_text, no_sequence}
+use Rattle.bt_seq.specs.model.Fasta.{is_sequence_header, Reached, SequenceLine, bases_up_to, sequence_says}
+use Rattle.bt_seq.specs.model.SequenceBlocks.{own_records}
 use Rattle.bt_seq.specs.calls.MaskState.{left_after}
 use Rattle.bt_lines.specs.model.Lines.{TextLine}
 use Rattle.bt_lines.specs.declared.fault.Input.TheVariants.{Second}

@@ -4,7 +4,9 @@ use Rattle.std.specs.List.{last_or}
 use Rattle.std.specs.Option.{option_map_or}
 use Rattle.bt_bed.specs.model.Feature.{Feature}
 use Rattle.bt_bed.specs.model.BedLine.{fault_at_line}
-use Rattle.bt_seq.specs.model.Masked.{names_behind, is_sequence_header, masked_from, name_in, left_by, Owned, owned}
+use Rattle.bt_seq.specs.model.Masked.{masked_from}
+use Rattle.bt_seq.specs.model.Fasta.{is_sequence_header, name_in}
+use Rattle.bt_seq.specs.model.SequenceBlocks.{names_behind, left_by, Owned, owned}
 use Rattle.bt_seq.specs.declared.mask.matching.Owner.{Owner}
 use Rattle.bt_seq.specs.declared.mask.matching.Owner.TheVariants.{Own, Earlier, Nobody}
 use Rattle.bt_bed.specs.declared.record.taken.Taken.TheVariants.{Yes, No}

@@ -8,7 +8,8 @@ use Rattle.bt_bed.specs.calls.Stage.{given}
 use Rattle.bt_seq.specs.calls.MaskStage.{MaskStage, held_by, reached_by, want_at, is_written_at_once, reached, with_bed_ended, with_decided, with_line, with_record, LineBefore, GoesOn, PassesTextLines, MayComeNext, held_for_line}
 use Rattle.bt_seq.specs.calls.MaskState.{Masking, Waiting, left_after}
 use Rattle.bt_seq.specs.inside.Masking.{KnowsStage}
-use Rattle.bt_seq.specs.model.Masked.{line_decided, is_unnamed, SequenceLine, is_sequence_header, masked_line, sequence_says}
+use Rattle.bt_seq.specs.model.Masked.{line_decided, is_unnamed, masked_line}
+use Rattle.bt_seq.specs.model.Fasta.{SequenceLine, is_sequence_header, sequence_says}
 use Rattle.bt_seq.specs.declared.mask.mask_how.MaskHow.{MaskHow}
 use Rattle.bt_lines.specs.model.Fault.{FaultValue}
 use Rattle.bt_lines.specs.calls.Faults.{no_memory}

@@ -4,7 +4,9 @@ use Rattle.bt_bed.specs.model.Feature.{Span}
 use Rattle.bt_lines.specs.model.Fault.{FaultValue}
 use Rattle.bt_lines.specs.model.Lines.{pieces}
 use Rattle.bt_lines.specs.declared.fault.Kind.{Kind}
-use Rattle.bt_seq.specs.model.Alignment.{Alignment, Fields, blocks_in, operations_in}
+use Rattle.bt_seq.specs.model.Alignment.{Alignment, Fields}
+use Rattle.bt_seq.specs.model.BedLines.{blocks_in}
+use Rattle.bt_seq.specs.model.Cigar.{operations_in}
 use Rattle.bt_seq.specs.declared.sam.block_iter.SamBlocks.{SamBlocks}
 use Rattle.bt_seq.specs.declared.sam.fields.Fields.{Fields as FieldsRef}
 use Rattle.bt_seq.specs.declared.sam.SamRef.{SamRef}

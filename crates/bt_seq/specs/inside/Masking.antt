@@ -6,7 +6,9 @@ use Rattle.bt_bed.specs.model.Feature.{Feature}
 use Rattle.bt_lines.specs.model.Lines.{max_number, TextLine, spelled}
 use Rattle.bt_seq.specs.calls.MaskStage.{MaskStage, reached_by, want_at, PassesTextLines}
 use Rattle.bt_seq.specs.calls.MaskState.{Knows, KnowsEarlier, Matched, Masking, passed, stays_as_given, goes_on_block, left_after}
-use Rattle.bt_seq.specs.model.Masked.{line_decided, is_unnamed, names_behind, SequenceLine, is_sequence_header}
+use Rattle.bt_seq.specs.model.Masked.{line_decided, is_unnamed}
+use Rattle.bt_seq.specs.model.Fasta.{SequenceLine, is_sequence_header}
+use Rattle.bt_seq.specs.model.SequenceBlocks.{names_behind}
 use Rattle.bt_seq.specs.inside.Window.{Bounds, limit, gone_on}
 use Rattle.bt_seq.specs.declared.mask.MaskWant.TheVariants.{Line, Nothing, Bed}
 use Rattle.bt_lines.specs.calls.Reader.{PassesLine, rest_in}

@@ -1,7 +1,9 @@
 -- How a SAM line is read.
 use Rattle.std.specs.Prelude.{◌≡◌, ℕ, ◌+◌, ◌<◌, ◌≤◌, ⊤, Bool, false, IsTrue, List, [], ◌∷◌, length, nat_le, Option, Some, None, ◌++◌, codes, decimal, if◌then◌else◌}
 use Rattle.bt_lines.specs.model.Lines.{max_number}
-use Rattle.bt_seq.specs.model.Alignment.{operations_in, reference_length, with_operation, Alignment, strand_sign, text_if}
+use Rattle.bt_seq.specs.model.Alignment.{Alignment}
+use Rattle.bt_seq.specs.model.BedLines.{strand_sign, text_if}
+use Rattle.bt_seq.specs.model.Cigar.{operations_in, reference_length, with_operation}
 use Rattle.bt_seq.specs.declared.sam.cigar.Operation.{Operation}
 use denote.Ref.{Bor}
 

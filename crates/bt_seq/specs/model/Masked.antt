@@ -1,166 +1,20 @@
--- FASTA inputs, which records mask which sequence, and the masked lines.
-use Rattle.std.specs.Prelude.{◌++◌, ℕ, Bool, true, false, List, [], ◌∷◌, Option, Some, None, bytes_eq, flat_map, nat_le, option_and_then, if◌then◌else◌, ◌+◌, ◌==◌, ◌||◌, drop, length, Result, Ok, Err, suc, ◌&&◌, find, is_none}
+-- The masked lines of a FASTA input.
+use Rattle.std.specs.Prelude.{◌++◌, ℕ, Bool, true, false, List, [], ◌∷◌, Option, Some, None, option_and_then, if◌then◌else◌, ◌+◌, ◌||◌, suc, find, is_none}
 use Rattle.std.specs.List.{last_or, list_any}
 use Rattle.std.specs.Option.{option_map_or}
 use Rattle.bt_bed.specs.model.Feature.{Feature, record_covers}
-use Rattle.bt_bed.specs.model.BedLine.{fault_at_line, first_word}
-use Rattle.bt_bed.specs.model.Good.{Format, Good, good_handed, Member, items_in, or_else}
+use Rattle.bt_bed.specs.model.BedLine.{fault_at_line}
+use Rattle.bt_bed.specs.model.Good.{Good, Member, items_in, or_else}
 use Rattle.bt_bed.specs.model.Meeting.{Report, Rule, join_report}
-use Rattle.bt_lines.specs.model.Lines.{Handed, TextLine, end_bytes}
-use Rattle.bt_lines.specs.declared.fault.Input.{Input}
-use Rattle.bt_lines.specs.declared.fault.Kind.{Kind}
-use Rattle.bt_lines.specs.declared.fault.Kind.TheVariants.{TextBeforeHeader, NoSequence}
-use Rattle.bt_lines.specs.declared.reader.line.LineEnd.{LineEnd}
+use Rattle.bt_lines.specs.model.Lines.{end_bytes}
+use Rattle.bt_lines.specs.declared.fault.Kind.TheVariants.{NoSequence}
 use Rattle.std.specs.Char.{is_ascii_uppercase}
 use Rattle.bt_lines.specs.model.Fault.{FaultValue}
 use Rattle.bt_lines.specs.declared.fault.Input.TheVariants.{Second}
 use Rattle.bt_seq.specs.declared.mask.mask_how.MaskHow.{MaskHow}
 use Rattle.bt_seq.specs.declared.mask.mask_how.MaskHow.TheVariants.{Soft, Hard}
-
--- Which records mask which sequence. A block is a maximal run of records of one chromosome. It
--- belongs to the first sequence of its name after that of the block before it. It belongs to none
--- if there is no such sequence, or if the block before it belongs to none. The laws on blocks and
--- their sequences are in `sequences` of bt_laws.
-
--- a block of things that lie on chromosomes, as records with or without their lines
-pub record Block (A : Type 0) : Type 0 where
-  pub chrom : List ℕ
-  pub items : List A
-
--- the blocks with one more record before them: it goes on with the first block, or is a block of its own
-abbrev pub block_with : {A : Type 0} → List ℕ → A → List (Block A) → List (Block A)
-block_with chrom x [] = record { chrom = chrom; items = x ∷ [] } ∷ []
-block_with chrom x (b ∷ bs) =
-    if bytes_eq chrom b.chrom then record { chrom = b.chrom; items = x ∷ b.items } ∷ bs
-    else record { chrom = chrom; items = x ∷ [] } ∷ b ∷ bs
-
--- the maximal runs of one chromosome
-abbrev pub blocks_by : {A : Type 0} → (A → List ℕ) → List A → List (Block A)
-blocks_by chrom [] = []
-blocks_by chrom (x ∷ xs) = block_with (chrom x) x (blocks_by chrom xs)
-
--- the names after the first of this name, if it is among them
-abbrev pub names_behind : List ℕ → List (List ℕ) → Option (List (List ℕ))
-names_behind name [] = None
-names_behind name (n ∷ ns) = if bytes_eq n name then Some ns else names_behind name ns
-
--- the names after the sequence to which a block belongs, if these names were left by the
--- block before it; none if it belongs to no sequence
-abbrev pub left_by : Option (List (List ℕ)) → List ℕ → Option (List (List ℕ))
-left_by left name = option_and_then (names_behind name) left
-
--- a block, and the names after the sequence to which it belongs
-pub record Owned (A : Type 0) : Type 0 where
-  pub block : Block A
-  pub left : Option (List (List ℕ))
-
-abbrev pub owned_from : {A : Type 0} → Option (List (List ℕ)) → List (Block A) → List (Owned A)
-owned_from left [] = []
-owned_from left (b ∷ bs) =
-    record { block = b; left = left_by left b.chrom } ∷ owned_from (left_by left b.chrom) bs
-
--- the blocks of records, each with its sequence among those of these names
-abbrev pub owned : List (List ℕ) → List Feature → List (Owned Feature)
-owned names records = owned_from (Some names) (blocks_by (λ r. r.chrom) records)
-
--- the things of a block after which these names are left,
--- if it belongs to the last of all names
-abbrev pub items_if_last : {A : Type 0} → Option (List (List ℕ)) → List A → List A
-items_if_last None xs = []
-items_if_last (Some []) xs = xs
-items_if_last (Some (name ∷ names)) xs = []
-
--- the records of the block that belongs to the last sequence of these names
-abbrev pub own_records : List (List ℕ) → List Feature → List Feature
-own_records names records = flat_map (λ o. items_if_last o.left o.block.items) (owned names records)
-
--- Whether a block after which these names are left decides a line of the last sequence, up to
--- whose end there are this many bases. It does if a record of it starts there or later, or if it belongs to
--- no sequence up to that one.
-abbrev pub block_decides : ℕ → Option (List (List ℕ)) → List Feature → Bool
-block_decides bases None records = true
-block_decides bases (Some []) records = list_any (λ r. nat_le bases r.start) records
-block_decides bases (Some (name ∷ names)) records = false
-
--- The lines of a FASTA input (bedtools manual, maskfasta; getfasta for names). A line that begins
--- with `>` is a header, and begins a sequence. Every other line after a header holds bases, one for
--- each byte of its text. Before the first header lines are blank.
-
--- a line of a sequence, and where it is
-pub record SequenceLine : Type 0 where
-  -- the names of the sequences up to its own,
-  -- which is the last; before the first header there is none
-  pub names : List (List ℕ)
-  -- how many bases of its sequence come before it
-  pub before : ℕ
-  pub text : List ℕ
-  pub ending : LineEnd
-
--- whether a text is a header
-abbrev pub is_sequence_header : List ℕ → Bool
-is_sequence_header [] = false
-is_sequence_header (byte ∷ bytes) = byte == 62
-
--- the name that a header gives: the text after `>` up to the first space or tab, or all of it
--- if the full header is requested
-abbrev pub name_in : Bool → List ℕ → List ℕ
-name_in full text =
-    if full then drop 1 text else first_word (drop 1 text)
-
--- how many bases a text holds
-abbrev pub bases_in : List ℕ → ℕ
-bases_in text = if is_sequence_header text then 0 else length text
-
--- how many bases of its sequence come before the end of a line
-abbrev pub bases_up_to : SequenceLine → ℕ
-bases_up_to line = line.before + bases_in line.text
-
--- how far the lines before have come: the names of the sequences,
--- and how many bases the last one has
-pub record Reached : Type 0 where
-  pub names : List (List ℕ)
-  pub bases : ℕ
-
--- a line of the last sequence
-abbrev pub line_behind : Reached → TextLine → SequenceLine
-line_behind reached line =
-    record { names = reached.names; before = reached.bases; text = line.text; ending = line.ending }
-
--- the header of a new sequence
-abbrev pub header_behind : Bool → Reached → TextLine → SequenceLine
-header_behind full reached line =
-    record {
-      names = reached.names ++ name_in full line.text ∷ [];
-      before = 0;
-      text = line.text;
-      ending = line.ending;
-    }
-
--- whether a text may follow sequences of these names without being a header:
--- after none it is blank
-abbrev pub may_stand : List (List ℕ) → List ℕ → Bool
-may_stand [] [] = true
-may_stand [] (byte ∷ bytes) = false
-may_stand (name ∷ names) text = true
-
--- what a line says after those before it
-abbrev pub sequence_says : Bool → Reached → TextLine → Result (Option SequenceLine) Kind
-sequence_says full reached line =
-    if is_sequence_header line.text then Ok (Some (header_behind full reached line))
-    else (if may_stand reached.names line.text then Ok (Some (line_behind reached line))
-    else Err TextBeforeHeader)
-
--- every line is a member, as long as text comes in sequences
-abbrev pub sequence_format : Bool → Format SequenceLine Reached
-sequence_format full = record {
-  begin = record { names = []; bases = 0 };
-  says = sequence_says full;
-  after = λ reached line. record { names = line.names; bases = bases_up_to line };
-}
-
--- what is good of a FASTA input
-abbrev pub sequence_good : Bool → Input → Handed → Good SequenceLine
-sequence_good full input handed = good_handed (sequence_format full) input handed
+use Rattle.bt_seq.specs.model.SequenceBlocks.{blocks_by, owned_from, owned, own_records, block_decides}
+use Rattle.bt_seq.specs.model.Fasta.{SequenceLine, is_sequence_header, bases_up_to}
 
 -- The masked lines of a FASTA input, and how it meets a BED input (bedtools manual, maskfasta).
 

@@ -5,7 +5,7 @@ ghost use Rattle.bt_lines.specs.model.Fault.{FaultValue};
 ghost use Rattle.bt_lines.specs.calls.Faults.{write_failed};
 ghost use Rattle.bt_lines.specs.calls.Names.{fault_value};
 ghost use Rattle.bt_lines.specs.calls.Output.{Adds};
-ghost use Rattle.bt_seq.specs.model.Alignment.{bed_lines};
+ghost use Rattle.bt_seq.specs.model.BedLines.{bed_lines};
 ghost use Rattle.bt_seq.specs.calls.Sam.{alignment_lent};
 
 use crate::bamtobed::bed_line::put_line;

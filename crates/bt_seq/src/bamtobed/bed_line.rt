@@ -2,7 +2,7 @@
 
 ghost use Rattle.std.specs.Prelude.{◌≡◌, ◌+◌, ◌≤◌, ◌++◌, ◌∷◌, [], codes, drop, false, length, true};
 ghost use Rattle.bt_lines.specs.calls.Output.{Puts, PutsAll};
-ghost use Rattle.bt_seq.specs.model.Alignment.{bed_line, strand_sign, text_if};
+ghost use Rattle.bt_seq.specs.model.BedLines.{bed_line, strand_sign, text_if};
 ghost use Rattle.bt_seq.specs.inside.Sam.{bounds_text, end_sign, line_tail, marks, quality_text};
 ghost use Rattle.bt_seq.specs.calls.Sam.{alignment_lent};
 

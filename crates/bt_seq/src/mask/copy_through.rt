@@ -2,7 +2,7 @@
 
 ghost use Rattle.std.specs.Prelude.{◌≡◌, ◌≤◌, ◌&&◌, nat_le, not};
 ghost use Rattle.bt_seq.specs.inside.Window.{limit};
-ghost use Rattle.bt_seq.specs.model.Masked.{is_sequence_header};
+ghost use Rattle.bt_seq.specs.model.Fasta.{is_sequence_header};
 
 use crate::mask::header_name::is_header;
 use crate::mask::window::up_to_limit;

@@ -3,7 +3,7 @@
 ghost use Rattle.std.specs.Prelude.{◌≡◌, ◌≤◌, length, not, take, true};
 ghost use Rattle.std.specs.List.{take_while};
 ghost use Rattle.bt_bed.specs.model.BedLine.{ends_word};
-ghost use Rattle.bt_seq.specs.model.Masked.{is_sequence_header, name_in};
+ghost use Rattle.bt_seq.specs.model.Fasta.{is_sequence_header, name_in};
 
 use bt_lines::length_before;
 

@@ -22,7 +22,7 @@ ghost use Rattle.bt_lines.specs.declared.reader.buffered_lines.BufferedLines.{Bu
 ghost use Rattle.bt_bed.specs.calls.Stage.{given};
 ghost use Rattle.bt_seq.specs.calls.MaskStage.{MayComeNext, MaskStage, first_stage, held_by, want_at, with_lines_ended};
 ghost use Rattle.bt_seq.specs.calls.MaskSteps.{MaskMovesTo, MaskStandsAt, GivesBoth, DoesNothing, StopsAt, left_to_give, ChecksRecord, EndsCheck, EndsRecords, GivesNextLine, GivesBed};
-ghost use Rattle.bt_seq.specs.model.Masked.{SequenceLine};
+ghost use Rattle.bt_seq.specs.model.Fasta.{SequenceLine};
 
 use crate::mask::mask_how::MaskHow;
 use crate::mask::mask_state::MaskState;

@@ -1,6 +1,6 @@
 //! The blocks of an alignment, one after another.
 
-ghost use Rattle.bt_seq.specs.model.Alignment.{operations_in};
+ghost use Rattle.bt_seq.specs.model.Cigar.{operations_in};
 ghost use Rattle.bt_seq.specs.inside.Sam.{FitBehind};
 
 use crate::sam::SamRef;
@@ -20,7 +20,7 @@ pub struct SamBlocks<'a> {
 
 impl<'a> SamBlocks<'a> {
     ghost use Rattle.std.specs.Prelude.{◌≡◌};
-    ghost use Rattle.bt_seq.specs.model.Alignment.{alignment_blocks};
+    ghost use Rattle.bt_seq.specs.model.BedLines.{alignment_blocks};
     ghost use Rattle.bt_seq.specs.calls.Sam.{alignment_lent, blocks_left};
 
     // The blocks of an alignment.

@@ -1,12 +1,11 @@
 //! CIGAR strings: how an alignment goes along the reference.
 
 ghost use Rattle.std.specs.Prelude.{◌≡◌, IfSome, Some, min, option_map};
-ghost use Rattle.bt_seq.specs.model.Alignment.{consumes_reference, covered_by, is_letter, operations_in, operations_of};
+ghost use Rattle.bt_seq.specs.model.Cigar.{consumes_reference, covered_by, is_letter, operations_in, operations_of};
 ghost use Rattle.bt_seq.specs.calls.Alignments.{span_with};
 ghost use Rattle.bt_seq.specs.inside.Sam.{IsFirstOperation, LeavesShorter};
 
-use crate::sam::sam_text::number_in;
-use bt_lines::MAX_NUMBER;
+use bt_lines::{MAX_NUMBER, short_number};
 
 /// An operation of a CIGAR: a number and a letter (SAM specification, section 1.4, field 6, CIGAR). No call gives one;
 /// laws name it.
@@ -62,7 +61,7 @@ fn single_span(text: &[u8]) -> Option<u64>
     if text[size - 1] != b'M' {
         return None;
     }
-    number_in(&text[..size - 1])
+    short_number(&text[..size - 1])
 }
 
 // The reference length of any text of operations, by a loop over them.

@@ -1,7 +1,8 @@
 //! The first block of a text of operations.
 
 ghost use Rattle.std.specs.Prelude.{◌≡◌, ◌++◌, ◌<◌, length};
-ghost use Rattle.bt_seq.specs.model.Alignment.{blocks_in, with_bases, operations_in};
+ghost use Rattle.bt_seq.specs.model.BedLines.{blocks_in, with_bases};
+ghost use Rattle.bt_seq.specs.model.Cigar.{operations_in};
 ghost use Rattle.bt_seq.specs.inside.Sam.{FitBehind};
 
 use crate::sam::cigar::{covered_by, first_operation};

@@ -1,14 +1,13 @@
 //! What a line of a SAM file says.
 
-ghost use Rattle.std.specs.Prelude.{◌≡◌, ◌≤◌, ◌∷◌, [], Some, length, take};
-ghost use Rattle.bt_lines.specs.model.Lines.{value_of};
+ghost use Rattle.std.specs.Prelude.{◌≡◌, Some};
 ghost use Rattle.bt_seq.specs.model.Alignment.{alignment_of, fields_say, gives_nothing, has_bit, is_skipped_sam, up_to, value_up_to};
 ghost use Rattle.bt_seq.specs.calls.Sam.{alignment_seen, fields_lent};
 
 use crate::sam::SamRef;
 use crate::sam::cigar::cigar_span;
 use crate::sam::fields::{Fields, first_fields};
-use bt_lines::{Kind, MAX_NUMBER, eight_digits, number};
+use bt_lines::{Kind, MAX_NUMBER, long_number, short_number};
 
 // The greatest FLAG, POS and MAPQ.
 const MAX_FLAG: u64 = 65_535;
@@ -96,101 +95,12 @@ fn alignment(fields: Fields<'_>) -> Result<Option<SamRef<'_>>, Kind>
     }))
 }
 
-// The number that a text denotes. Up to three digits, as most flags and qualities have, are read without a loop.
-#[inline(always)]
-pub(crate) fn number_in(text: &[u8]) -> Option<u64>
-    ensures { result ≡ value_of text.now }
-{
-    match text {
-        [ones] => one_digit(*ones),
-        [tens, ones] => two_digits(*tens, *ones),
-        [hundreds, tens, ones] => three_digits(*hundreds, *tens, *ones),
-        _ => long_number(text),
-    }
-}
-
-// The number that a digit denotes.
-#[tactic(auto, unfolding(bt_lines::specs::model::Lines::value_of))]
-fn one_digit(ones: u8) -> Option<u64>
-    ensures { result ≡ value_of (ones ∷ []) }
-{
-    if !ones.is_ascii_digit() {
-        return None;
-    }
-    Some(u64::from(ones - b'0'))
-}
-
-// The number that two digits denote.
-#[tactic(auto, unfolding(bt_lines::specs::model::Lines::value_of))]
-fn two_digits(tens: u8, ones: u8) -> Option<u64>
-    ensures { result ≡ value_of (tens ∷ ones ∷ []) }
-{
-    if !tens.is_ascii_digit() {
-        return None;
-    }
-    if !ones.is_ascii_digit() {
-        return None;
-    }
-    Some(u64::from(tens - b'0') * 10 + u64::from(ones - b'0'))
-}
-
-// The number that three digits denote.
-#[tactic(auto, unfolding(bt_lines::specs::model::Lines::value_of))]
-fn three_digits(hundreds: u8, tens: u8, ones: u8) -> Option<u64>
-    ensures { result ≡ value_of (hundreds ∷ tens ∷ ones ∷ []) }
-{
-    if !hundreds.is_ascii_digit() {
-        return None;
-    }
-    if !tens.is_ascii_digit() {
-        return None;
-    }
-    if !ones.is_ascii_digit() {
-        return None;
-    }
-    let upper = u64::from(hundreds - b'0') * 10 + u64::from(tens - b'0');
-    Some(upper * 10 + u64::from(ones - b'0'))
-}
-
-// The number that a text denotes. Of eight or nine digits, as most positions have, eight are read at once.
-#[inline(always)]
-fn long_number(text: &[u8]) -> Option<u64>
-    ensures { result ≡ value_of text.now }
-{
-    match text.len() {
-        8 => first_eight(text),
-        9 => nine_digits(text),
-        _ => number(text),
-    }
-}
-
-// The number that nine digits denote.
-fn nine_digits(text: &[u8]) -> Option<u64>
-    requires { length text.now ≡ 9 }
-    ensures { result ≡ value_of text.now }
-{
-    let value = first_eight(text)?;
-    let last = text[8];
-    if !last.is_ascii_digit() {
-        return None;
-    }
-    Some(value * 10 + u64::from(last - b'0'))
-}
-
-// The number that the first eight digits denote.
-fn first_eight(text: &[u8]) -> Option<u64>
-    requires { 8 ≤ length text.now }
-    ensures { result ≡ value_of (take 8 text.now) }
-{
-    eight_digits(text.first_chunk::<8>()?)
-}
-
 // The number that a text denotes, if it is at most the limit. Most have up to three digits.
 #[inline(always)]
 fn number_up_to(text: &[u8], limit: u64) -> Option<u64>
     ensures { result ≡ value_up_to limit text.now }
 {
-    up_to(number_in(text), limit)
+    up_to(short_number(text), limit)
 }
 
 // The number that a text denotes, if it is a position. Most have eight or nine digits.

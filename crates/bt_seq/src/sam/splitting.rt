@@ -1,7 +1,7 @@
 //! Cutting an alignment into its blocks.
 
 ghost use Rattle.std.specs.Prelude.{◌≡◌};
-ghost use Rattle.bt_seq.specs.model.Alignment.{alignment_blocks};
+ghost use Rattle.bt_seq.specs.model.BedLines.{alignment_blocks};
 ghost use Rattle.bt_seq.specs.calls.Sam.{alignment_lent, blocks_left};
 
 use crate::sam::SamRef;

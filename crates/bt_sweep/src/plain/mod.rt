@@ -66,13 +66,13 @@ fn count_hits(rule: HitRule, a: &Rec, second: &[Rec]) -> usize
 {
     second
         .iter()
-        .filter(|b| hits(rule, &a.as_bed(), &b.as_bed()))
+        .filter(|b| is_hit(rule, &a.as_bed(), &b.as_bed()))
         .count()
 }
 
-// Whether a record hits another: they share a base, and as much as the rule requires.
+// Whether the second record is a hit of the first: they share a base, and as much as the rule requires.
 #[tactic(auto, unfolding(crate::specs::model::Hits::is_hit))]
-pub(crate) fn hits(rule: HitRule, a: &BedRef<'_>, b: &BedRef<'_>) -> bool
+pub(crate) fn is_hit(rule: HitRule, a: &BedRef<'_>, b: &BedRef<'_>) -> bool
     ensures { result ≡ is_hit rule (feature_lent a.now) (feature_lent b.now) }
 {
     let bases = shared(a, b);
@@ -103,7 +103,7 @@ fn write_hits(
 {
     for b in second {
         let b = b.as_bed();
-        if hits(rule, a, &b) {
+        if is_hit(rule, a, &b) {
             write_hit(shape, a, &b, text)?;
         }
     }

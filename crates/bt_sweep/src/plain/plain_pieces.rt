@@ -10,7 +10,7 @@ ghost use Rattle.bt_sweep.specs.model.Lines.{is_left, pieces};
 ghost use Rattle.bt_sweep.specs.inside.Pieces.{pieces_in};
 
 use crate::hits::hit_rule::HitRule;
-use crate::plain::hits;
+use crate::plain::is_hit;
 use bt_bed::{BedRef, Rec};
 use std::alloc::{AllocError, Global};
 
@@ -49,7 +49,7 @@ fn is_left(rule: HitRule, a: &BedRef<'_>, second: &[Rec], position: u64) -> bool
 fn is_taken(rule: HitRule, a: &BedRef<'_>, second: &[Rec], position: u64) -> bool
     ensures { result ≡ list_any (λ b. is_hit rule (feature_lent a.now) b && record_covers position b) second.now }
 {
-    second.iter().any(|b| hits(rule, a, &b.as_bed()) && record_covers(b, position))
+    second.iter().any(|b| is_hit(rule, a, &b.as_bed()) && record_covers(b, position))
 }
 
 // Whether the record has the position.

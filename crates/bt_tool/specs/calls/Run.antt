@@ -16,7 +16,8 @@ use Rattle.bt_lines.specs.declared.fault.Input.TheVariants.{Genome as FromGenome
 use Rattle.bt_bed.specs.calls.GenomeTable.{entries, names_of, is_genome_kind}
 use Rattle.bt_bed.specs.calls.Orders.{AreDistinct}
 use Rattle.bt_bed.specs.declared.order.genome.Genome.{Genome as GenomeTable}
-use Rattle.bt_tool.specs.model.Report.{chromosomes_of, Behaviour, behaviour_of, Inputs, behaviour_on, report_of, report, seen_of, texts_of}
+use Rattle.bt_tool.specs.model.Report.{chromosomes_of, Inputs, behaviour_on, report_of, report, seen_of, texts_of}
+use Rattle.bt_tool.specs.model.Behaviour.{Behaviour, behaviour_of}
 use Rattle.bt_tool.specs.calls.Inputs.{CameOf, HandsUpTo, InputRead, MayHold, OfBoth, ReadsSo, ReadsSoIf, ServesIf}
 use Rattle.bt_lines.specs.declared.device.Sink.{Ghosts as Sink}
 use Rattle.bt_lines.specs.declared.fault.Place.{Place}

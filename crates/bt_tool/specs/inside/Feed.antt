@@ -24,7 +24,8 @@ use Rattle.bt_bed.specs.declared.read.batch.Batch.{Batch}
 use Rattle.bt_bed.specs.declared.read.records.Records.{Records}
 use Rattle.bt_tool.specs.calls.Run.{IsPutTo}
 use Rattle.std.specs.Option.{option_map_or}
-use Rattle.bt_seq.specs.model.Alignment.{Alignment, alignment_of, bed_lines, sam_format, is_sam_kind}
+use Rattle.bt_seq.specs.model.Alignment.{Alignment, alignment_of, sam_format, is_sam_kind}
+use Rattle.bt_seq.specs.model.BedLines.{bed_lines}
 use Rattle.bt_seq.specs.calls.Sam.{Converting}
 use Rattle.bt_tool.specs.model.Written.{IsOneOf, alignment_lines}
 use Rattle.std.specs.Io.KnownBytes.{Keeps}

@@ -17,14 +17,17 @@ use Rattle.bt_bed.specs.calls.Reading.{MemberReader, room}
 use Rattle.bt_seq.specs.calls.MaskStage.{MaskStage}
 use Rattle.bt_seq.specs.calls.MaskState.{Masking, left_after}
 use Rattle.bt_seq.specs.calls.MaskSteps.{MaskStandsAt}
-use Rattle.bt_seq.specs.model.Masked.{line_decided, masked_line, names_of_sequences, no_sequence, Reached, SequenceLine, sequence_format}
+use Rattle.bt_seq.specs.model.Masked.{line_decided, masked_line, names_of_sequences, no_sequence}
+use Rattle.bt_seq.specs.model.Fasta.{Reached, SequenceLine, sequence_format}
 use Rattle.bt_seq.specs.declared.mask.mask_how.MaskHow.{MaskHow}
 use Rattle.bt_seq.specs.declared.mask.MaskWant.{MaskWant}
 use Rattle.bt_seq.specs.declared.mask.MaskWant.TheVariants.{Line as WantLine, Bed as WantBed, Nothing}
 use Rattle.bt_sweep.specs.declared.sweep.Want.{Want}
 use Rattle.bt_sweep.specs.declared.sweep.Want.TheVariants.{A as WantA, B as WantB, Nothing as WantNothing}
 use Rattle.bt_tool.specs.declared.loops.masking.MaskRun.{MaskRun}
-use Rattle.bt_tool.specs.model.Written.{IsOneOf, is_fasta_kind, is_mask_kind, lines_need}
+use Rattle.bt_tool.specs.model.Written.{IsOneOf}
+use Rattle.bt_tool.specs.model.Reaches.{lines_need}
+use Rattle.bt_tool.specs.model.TwoInputs.{is_fasta_kind, is_mask_kind}
 use Rattle.bt_tool.specs.inside.Pair.{Comes, JoinDef, Pair, item_ahead, IsOverWith}
 use Rattle.bt_tool.specs.inside.Rounds.{IsBuffered, TwoInputDef}
 use Rattle.bt_tool.specs.inside.Feed.{lines_read}

@@ -28,7 +28,8 @@ use Rattle.bt_sweep.specs.calls.SweepView.{order_of as sweep_order, state_of}
 use Rattle.bt_sweep.specs.declared.sweep.Want.{Want}
 use Rattle.bt_tool.specs.declared.loops.sweeping.SweepConfig.{SweepConfig}
 use Rattle.bt_tool.specs.declared.loops.sweeping.SweepRun.{SweepRun}
-use Rattle.bt_tool.specs.model.Written.{IsSweptKind, records_need}
+use Rattle.bt_tool.specs.model.Reaches.{records_need}
+use Rattle.bt_tool.specs.model.TwoInputs.{IsSweptKind}
 use Rattle.bt_tool.specs.inside.Pair.{Comes, JoinDef, Pair, IsOverWith}
 use Rattle.bt_tool.specs.inside.Rounds.{IsBuffered, TwoInputDef}
 use Rattle.bt_tool.specs.inside.Feed.{IsLater, AreAll, PassesMembers, StopsAfter}

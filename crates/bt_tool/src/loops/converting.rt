@@ -6,7 +6,7 @@ ghost use Rattle.bt_lines.specs.calls.Names.{fault_value};
 ghost use Rattle.bt_lines.specs.calls.Output.{HoldsBlock};
 ghost use Rattle.bt_lines.specs.calls.Reader.{fault_kept};
 ghost use Rattle.bt_seq.specs.model.Alignment.{sam_format, is_sam_kind};
-ghost use Rattle.bt_tool.specs.model.Report.{of_members};
+ghost use Rattle.bt_tool.specs.model.Behaviour.{of_members};
 ghost use Rattle.bt_tool.specs.model.Written.{IsOneOf, alignments_written};
 ghost use Rattle.bt_tool.specs.inside.Feed.{ConvertsAll, ConvertsLine, sam_reader, IsFresh};
 ghost use Rattle.bt_tool.specs.calls.Run.{AnswersNoRead, RunsAlone, TellsNoRead};

@@ -13,7 +13,7 @@ ghost use Rattle.bt_bed.specs.calls.Records.{below, last_locus, order_in, view_o
 ghost use Rattle.bt_bed.specs.calls.CursorOf.{batch_cursor};
 ghost use Rattle.bt_bed.specs.declared.read.batch.Batch.{Batch};
 ghost use Rattle.bt_runs.specs.calls.Engine.{FeedsBatch, SettledBegins, SettledStays};
-ghost use Rattle.bt_tool.specs.model.Report.{of_records};
+ghost use Rattle.bt_tool.specs.model.Behaviour.{of_records};
 ghost use Rattle.bt_tool.specs.inside.Feed.{AreInOrder, ConsumesGiven, FeedsMembers, IsFresh, IsKeptBelow};
 ghost use Rattle.bt_tool.specs.calls.Run.{AnswersNoRead, RunsAlone, TellsNoRead};
 

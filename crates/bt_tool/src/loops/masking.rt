@@ -3,7 +3,7 @@
 ghost use Rattle.std.specs.Prelude.{Some, option_map};
 ghost use Rattle.bt_lines.specs.calls.Names.{fault_value};
 ghost use Rattle.bt_lines.specs.calls.Output.{HoldsBlock};
-ghost use Rattle.bt_tool.specs.model.Report.{of_maskfasta};
+ghost use Rattle.bt_tool.specs.model.Behaviour.{of_maskfasta};
 ghost use Rattle.bt_tool.specs.calls.Run.{RunsBy};
 
 use crate::loops::Sources;

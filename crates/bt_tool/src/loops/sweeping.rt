@@ -11,7 +11,7 @@ ghost use Rattle.bt_bed.specs.calls.CursorOf.{batch_cursor};
 ghost use Rattle.bt_bed.specs.declared.read.batch.Batch.{Batch};
 ghost use Rattle.bt_sweep.specs.calls.Sweeping.{AdvancesOn};
 ghost use Rattle.bt_sweep.specs.calls.SweepView.{order_of as sweep_order, state_of};
-ghost use Rattle.bt_tool.specs.model.Report.{of_intersect};
+ghost use Rattle.bt_tool.specs.model.Behaviour.{of_intersect};
 ghost use Rattle.bt_tool.specs.inside.Feed.{ConsumesGiven, HasTaken, IsKeptBelow};
 ghost use Rattle.bt_tool.specs.inside.SweepLoop.{ReadsRest};
 ghost use Rattle.bt_tool.specs.calls.Run.{AnswersNoRead, RunsBy, TellsNoRead};

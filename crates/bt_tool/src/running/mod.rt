@@ -10,7 +10,7 @@ ghost use Rattle.bt_lines.specs.calls.Output.{HoldsBlock};
 ghost use Rattle.bt_bed.specs.calls.GenomeTable.{entries, names_of};
 ghost use Rattle.bt_bed.specs.calls.Orders.{AreDistinct};
 ghost use Rattle.bt_sweep.specs.model.Lines.{subtract_shape};
-ghost use Rattle.bt_tool.specs.model.Report.{behaviour_of, entries_in, of_intersect, of_maskfasta, of_records, order_in_use};
+ghost use Rattle.bt_tool.specs.model.Behaviour.{behaviour_of, entries_in, of_intersect, of_maskfasta, of_records, order_in_use};
 ghost use Rattle.bt_tool.specs.calls.Run.{ReadsChromosomes, Runs, RunsAlone, RunsBy};
 ghost use Rattle.bt_tool.specs.calls.Limits.{is_within_limits, IsNamedBy};
 ghost use Rattle.bt_tool.specs.inside.Feed.{Flushes};

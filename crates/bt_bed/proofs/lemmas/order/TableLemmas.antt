@@ -7,7 +7,8 @@ use Rattle.bt_lines.specs.declared.fault.Input.{Input}
 use Rattle.bt_lines.specs.declared.fault.Kind.{Kind}
 use Rattle.bt_bed.specs.model.Order.{is_among, rank_of}
 use Rattle.bt_bed.specs.calls.Orders.{AreDistinct}
-use Rattle.bt_bed.specs.model.Genome.{Entry, genome_names, genome_from, genome_with, new_entry, entry_of, with_entry, genome_of}
+use Rattle.bt_bed.specs.model.Genome.{Entry, all_or_fault, entry_of, genome_format, genome_names, genome_of, new_entry}
+use Rattle.bt_bed.specs.model.Good.{Good, good_after, good_with, with_member}
 use Rattle.std.specs.List.{AllByRecursion, IsDistinct}
 use Rattle.bt_bed.proofs.lemmas.parse.NameLemmas.{name_eq, name_ne-sym, name_eq-sym}
 use Rattle.bt_lines.specs.declared.fault.Place.{Place}
@@ -39,8 +40,16 @@ distinct_push (m ∷ ms) n d e =
     let parts = or_parts (bytes_eq m n) (is_among ms n) e in
     (among_push ms n m d.0 (name_ne-sym m n parts.0), distinct_push ms n d.1 parts.1)
 
-pub ok_entries : (entry : Entry) (rest : Result (List Entry) FaultValue) (entries : List Entry) → with_entry entry rest ≡ Ok entries → (more : List Entry) × (rest ≡ Ok more) × (entries ≡ entry ∷ more)
-ok_entries entry rest entries more = grind arith
+-- what the lines say after these names
+abbrev pub genome_from : Input → List (List ℕ) → List TextLine → Result (List Entry) FaultValue
+genome_from input names lines = all_or_fault (good_after genome_format input names lines)
+
+-- what a line says, and then what is good after it
+abbrev pub genome_with : Input → ℕ → List (List ℕ) → Result (Option Entry) Kind → (List (List ℕ) → Good Entry) → Result (List Entry) FaultValue
+genome_with input line names said rest = all_or_fault (good_with genome_format input line names said rest)
+
+pub ok_entries : (line : ℕ) (entry : Entry) (rest : Good Entry) (entries : List Entry) → all_or_fault (with_member (record { line = line; item = entry }) rest) ≡ Ok entries → (more : List Entry) × (all_or_fault rest ≡ Ok more) × (entries ≡ entry ∷ more)
+ok_entries line entry rest entries more = grind (arith, rest.fault)
 
 -- an entry that is taken has a new name
 pub is_new : (names : List (List ℕ)) (said : Result (Option Entry) Kind) (entry : Entry) → new_entry names said ≡ Ok (Some entry) → is_among names entry.name ≡ false
@@ -55,9 +64,9 @@ before_none : (result : Result (List Entry) FaultValue) → before [] result ≡
 unfolding before
 before_none result = grind arith
 
-before_more : (entry : Entry) (front : List Entry) (result : Result (List Entry) FaultValue) → with_entry entry (before front result) ≡ before (entry ∷ front) result
+before_more : (line : ℕ) (entry : Entry) (front : List Entry) (rest : Good Entry) (result : Result (List Entry) FaultValue) → all_or_fault rest ≡ before front result → all_or_fault (with_member (record { line = line; item = entry }) rest) ≡ before (entry ∷ front) result
 unfolding before
-before_more entry front result = grind arith
+before_more line entry front rest result e = grind (arith, rest.fault, result)
 
 pub before_ok : (front more : List Entry) (result : Result (List Entry) FaultValue) → result ≡ Ok more → before front result ≡ Ok (front ++ more)
 unfolding before
@@ -73,16 +82,17 @@ SaysThen input names given others = (entries : List Entry) → genome_from input
 
 said_with : (input : Input) (number : ℕ) (names : List (List ℕ)) (given others : List TextLine) (said : Result (Option Entry) Kind) (entries : List Entry)
     → ((now : List (List ℕ)) → SaysThen input now given others)
-    → genome_with input number names said (λ now. genome_from input now given) ≡ Ok entries
-    → genome_with input number names said (λ now. genome_from input now (given ++ others)) ≡ before entries (genome_from input (names ++ genome_names entries) others)
+    → genome_with input number names said (λ now. good_after genome_format input now given) ≡ Ok entries
+    → genome_with input number names said (λ now. good_after genome_format input now (given ++ others)) ≡ before entries (genome_from input (names ++ genome_names entries) others)
 said_with input number names given others (Err kind) entries h e = cc
 said_with input number names given others (Ok None) entries h e = h names entries e
 said_with input number names given others (Ok (Some entry)) entries h e =
-    let parts = ok_entries entry (genome_from input (names ++ entry.name ∷ []) given) entries e in
-    grind (arith, (before_more entry parts.0 (genome_from input ((names ++ entry.name ∷ []) ++ genome_names parts.0) others)), (append_assoc names (entry.name ∷ []) (genome_names parts.0)))
+    let now = names ++ entry.name ∷ [] in
+    let parts = ok_entries number entry (good_after genome_format input now given) entries e in
+    grind (arith, (before_more number entry parts.0 (good_after genome_format input now (given ++ others)) (genome_from input (now ++ genome_names parts.0) others)), (h now parts.0 parts.1), (append_assoc names (entry.name ∷ []) (genome_names parts.0)))
 
 pub says_then : (input : Input) (names : List (List ℕ)) (given others : List TextLine) → SaysThen input names given others
-unfolding genome_from
+unfolding good_after
 says_then input names [] others entries e = grind (arith, append-nil, before_none)
 says_then input names (line ∷ given) others entries e = grind (arith, (said_with input line.number names given others (new_entry names (entry_of line.text)) entries (λ now. says_then input now given others) e))
 
@@ -227,15 +237,15 @@ abbrev Continues : Input → List TextLine → ℕ → List Entry → List TextL
 Continues input old from front new to = (given : List TextLine) × (old ≡ given ++ new) × (from + length given ≡ to) × (genome_of input given ≡ Ok front)
 
 continues_start : (input : Input) (lines : List TextLine) (n : ℕ) → Continues input lines n [] lines n
-unfolding genome_from
+unfolding good_after
 continues_start input lines n = ([], refl, omega arith, refl)
 
 says_more : (input : Input) (names : List (List ℕ)) (line : TextLine) (entry : Option Entry) → new_entry names (entry_of line.text) ≡ Ok entry → genome_from input names (line ∷ []) ≡ Ok (option_to_list entry)
-unfolding genome_from
+unfolding good_after
 says_more input names line entry e = grind arith
 
 says_wrong : (input : Input) (names : List (List ℕ)) (line : TextLine) (lines : List TextLine) (kind : Kind) → new_entry names (entry_of line.text) ≡ Err kind → genome_from input names (line ∷ lines) ≡ Err (fault_at_line input line.number kind)
-unfolding genome_from
+unfolding good_after
 says_wrong input names line lines kind e = rw e refl
 
 continues_line : (input : Input) (old now next : List TextLine) (from : ℕ) {to further : ℕ} (front : List Entry) (line : TextLine) {entry : Option Entry} → Continues input old from front now to → now ≡ line ∷ next → further ≡ suc to

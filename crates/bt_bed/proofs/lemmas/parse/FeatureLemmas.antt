@@ -3,7 +3,7 @@ use Rattle.bt_lines.proofs.Std.{common_steps, ◌≡◌, ℕ, ◌+◌, ◌≤◌
 use Rattle.bt_lines.specs.model.Lines.{pieces, value_of}
 use Rattle.bt_lines.proofs.lemmas.reader.lines.TextLemmas.{IsColumn}
 use Rattle.bt_bed.specs.model.Feature.{Feature}
-use Rattle.bt_bed.specs.model.BedLine.{kept_columns, is_header, record_of, not_skipped, columns_say, feature_of, strand_of, ends_word, first_word, is_header_word}
+use Rattle.bt_bed.specs.model.BedLine.{kept_columns, says_nothing, record_of, not_skipped, columns_say, feature_of, strand_of, ends_word, first_word, is_header_word}
 use Rattle.bt_bed.specs.calls.Features.{IsFeature, IsName, is_kept, columns_in}
 use Rattle.bt_lines.specs.declared.fault.Kind.{Kind}
 use Rattle.bt_bed.specs.calls.Bed.{feature_between}
@@ -116,22 +116,22 @@ said_stands text f e =
     grind (arith, (three_columns text m.chrom m.start m.stop m.rest m.cut))
 
 -- a header line says nothing
-pub header_says : (text : List ℕ) → is_header text ≡ true → record_of text ≡ Ok None
+pub header_says : (text : List ℕ) → says_nothing text ≡ true → record_of text ≡ Ok None
 unfolding record_of
 header_says text h = rw h refl
 
 -- another line says what its columns say
-pub columns_of_line : (text : List ℕ) → is_header text ≡ false → record_of text ≡ not_skipped (columns_say (pieces 9 text))
+pub columns_of_line : (text : List ℕ) → says_nothing text ≡ false → record_of text ≡ not_skipped (columns_say (pieces 9 text))
 unfolding record_of
 columns_of_line text h = rw h refl
 
 -- a line that says a feature is no header, and its columns say it
-pub record_said : (text : List ℕ) (f : Feature) → record_of text ≡ Ok (Some f) → (is_header text ≡ false) × (columns_say (pieces 9 text) ≡ Ok f)
+pub record_said : (text : List ℕ) (f : Feature) → record_of text ≡ Ok (Some f) → (says_nothing text ≡ false) × (columns_say (pieces 9 text) ≡ Ok f)
 unfolding record_of
 record_said text f e = grind arith
 
 -- a line that is no header says what its columns say
-pub said_by_columns : (text : List ℕ) (said : Result Feature Kind) → is_header text ≡ false → said ≡ columns_say (pieces 9 text) → not_skipped said ≡ record_of text
+pub said_by_columns : (text : List ℕ) (said : Result Feature Kind) → says_nothing text ≡ false → said ≡ columns_say (pieces 9 text) → not_skipped said ≡ record_of text
 said_by_columns text said h e = ap not_skipped e ∙ sym (columns_of_line text h)
 
 -- the feature made of a name, of the start and end that were found, and of what follows their columns is what the text says
@@ -188,6 +188,6 @@ word_before_tab [] left right = of_word 9 left true refl ∙ sym (of_word 9 righ
 word_before_tab (byte ∷ name) left right = grind (arith, (word_before_tab name left right), more_of_word)
 
 -- whether a text is a header depends only on what comes before its first tab
-pub header_before_tab : (name left right : List ℕ) → is_header (name ++ 9 ∷ left) ≡ is_header (name ++ 9 ∷ right)
+pub header_before_tab : (name left right : List ℕ) → says_nothing (name ++ 9 ∷ left) ≡ says_nothing (name ++ 9 ∷ right)
 header_before_tab [] left right = ap (λ l. eqb 9 35 || is_header_word l) (word_before_tab [] left right)
 header_before_tab (byte ∷ name) left right = ap (λ l. eqb byte 35 || is_header_word l) (word_before_tab (byte ∷ name) left right)

@@ -5,7 +5,7 @@ use Rattle.bt_lines.proofs.lemmas.numbers.NumberLemmas.{digits_below, value_of_d
 use Rattle.bt_lines.specs.model.Lines.{pieces, value_of}
 use Rattle.bt_bed.proofs.lemmas.parse.FeatureLemmas.{cut_and_kept, record_said, said_is_feature, said_stands, header_before_tab, pieces_are_columns, IsWhole, of_whole, said_by_columns}
 use Rattle.bt_bed.specs.model.Feature.{Feature}
-use Rattle.bt_bed.specs.model.BedLine.{is_header, columns_say, kept_columns, record_of, strand_of, bed_text}
+use Rattle.bt_bed.specs.model.BedLine.{says_nothing, columns_say, kept_columns, record_of, strand_of, bed_text}
 use Rattle.bt_bed.specs.calls.Features.{IsName, columns_in, is_kept, IsFeature}
 use Rattle.bt_bed.specs.inside.FirstColumns.{AreBounds, BeginsWith, BeginsWithName, EndsName, IsRecordName, Leads, EndsFirst, HasColumns}
 use Rattle.bt_bed.specs.declared.record.raw_record.ParsedNumber.{ParsedNumber}
@@ -36,9 +36,6 @@ direct_say text first second kept name start stop strand f s k t n p inside q be
 pub leads_by : (text : List ℕ) (value end : ℕ) → 0 < end → end ≤ length text → (end < length text → get_or text end 0 ≡ 9) → value ≡ digits_value 10 (take end text) → list_all is_ascii_digit (take end text) ≡ true → value ≤ 999999999999
     → Leads text (record { value = value; end = end })
 leads_by text value end some within tab is digits small = grind (arith, value_of_digits, common_steps)
-
-pub digit_bound : (byte : ℕ) → is_ascii_digit byte ≡ true → byte ≤ 57
-digit_bound byte digit = grind arith
 
 -- the value of the first digits is below the power of ten that has one digit more
 pub begins_below : (text : List ℕ) (lead : ParsedNumber) → BeginsWith text lead → lead.value < 10 ^ lead.end
@@ -75,8 +72,8 @@ pub said_record_name : (text : List ℕ) (f : Feature) → Ok (Some f) ≡ recor
 said_record_name text f e = grind (arith, record_said, said_stands, append_assoc, said_is_feature, header_before_tab)
 
 -- a line that begins with the name of a record and a tab is no header
-pub named_is_no_header : (text name : List ℕ) → IsRecordName name → BeginsWithName text name → is_header text ≡ false
-named_is_no_header text name named e = ap is_header e ∙ named.no_header (drop (length name + 1) text)
+pub named_is_no_header : (text name : List ℕ) → IsRecordName name → BeginsWithName text name → says_nothing text ≡ false
+named_is_no_header text name named e = ap says_nothing e ∙ named.no_header (drop (length name + 1) text)
 
 -- Lemmas on the first columns of a line that was parsed.
 
@@ -134,7 +131,7 @@ module _ (text : List ℕ) {name : List ℕ} {r : Feature} (says : record_of tex
       pub parsed_bounds : AreBounds text (length name) (record { value = r.start; end = a }) (record { value = r.stop; end = b })
       parsed_bounds = grind (arith, whole_is, parsed_inside)
 
-  pub parsed_no_header : is_header text ≡ false
+  pub parsed_no_header : says_nothing text ≡ false
   parsed_no_header = (record_said text r says).0
 
 -- a text that says a record on the chromosome

@@ -6,7 +6,7 @@ use Rattle.bt_lines.specs.model.Lines.{TextLine, lines_from, numbered, pieces, t
 use Rattle.bt_lines.specs.calls.Line.{NoLineFeed}
 use Rattle.bt_lines.specs.declared.fault.Input.TheVariants.{First}
 use Rattle.bt_lines.specs.declared.fault.Kind.{Kind}
-use Rattle.bt_bed.specs.model.BedLine.{is_header, record_of}
+use Rattle.bt_bed.specs.model.BedLine.{says_nothing, record_of}
 use Rattle.bt_bed.specs.model.Feature.{Feature, intervals_of}
 use Rattle.bt_bed.specs.model.Genome.{is_skipped}
 use Rattle.bt_bed.specs.model.Good.{Good, block_format, good_after, good_with, in_order, items_in, line_says, locus_at, said_after}
@@ -51,9 +51,9 @@ text_clear text = lines_clear 1 (pieces 10 text) (pieces_are_clear text)
 
 -- The name of a record.
 
-no_comment_by : (chrom more text : List ℕ) → 0 < length chrom → text ≡ chrom ++ more → is_header text ≡ false → is_skipped chrom ≡ false
+no_comment_by : (chrom more text : List ℕ) → 0 < length chrom → text ≡ chrom ++ more → says_nothing text ≡ false → is_skipped chrom ≡ false
 no_comment_by [] more text some whole plain = absurd (omega arith)
-no_comment_by (byte ∷ bytes) more text some whole plain = (or_parts (byte == 35) _ (ap is_header (sym whole) ∙ plain)).0
+no_comment_by (byte ∷ bytes) more text some whole plain = (or_parts (byte == 35) _ (ap says_nothing (sym whole) ∙ plain)).0
 
 line_name : (text : List ℕ) (f : Feature) → NoLineFeed text → record_of text ≡ Ok (Some f) → IsLineName f.chrom
 line_name text f clear e =

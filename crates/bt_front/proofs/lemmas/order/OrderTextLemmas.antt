@@ -6,9 +6,10 @@ use Rattle.bt_lines.specs.calls.Line.{NoLineFeed}
 use Rattle.bt_lines.proofs.lemmas.reader.lines.TextLemmas.{lines_from-fed, lines_from-nil}
 use Rattle.bt_lines.specs.declared.fault.Input.TheVariants.{Genome}
 use Rattle.bt_bed.specs.calls.Orders.{AreDistinct}
-use Rattle.bt_bed.specs.model.Genome.{entry_of, genome_from, is_skipped}
+use Rattle.bt_bed.specs.model.Genome.{Entry, all_or_fault, entry_of, genome_format, is_skipped}
+use Rattle.bt_bed.specs.model.Good.{Good, good_after, with_member}
 use Rattle.bt_bed.specs.model.Order.{is_among}
-use Rattle.bt_bed.proofs.lemmas.order.TableLemmas.{among_push}
+use Rattle.bt_bed.proofs.lemmas.order.TableLemmas.{among_push, genome_from}
 use Rattle.bt_bed.proofs.lemmas.parse.NameLemmas.{name_ne-sym}
 use Rattle.bt_front.specs.calls.OrderText.{AreLineNames, IsLineName, longest_entry, order_is_read}
 use Rattle.bt_front.specs.model.Fitting.{entry_text, order_text}
@@ -57,21 +58,24 @@ none_among : (ns : List (List ℕ)) → NoneAmong [] ns
 none_among [] = tt
 none_among (n ∷ ns) = (refl, none_among ns)
 
+-- an entry before others
+entries_more : (line : ℕ) (entry : Entry) (rest : Good Entry) (entries : List Entry) → all_or_fault rest ≡ Ok entries → all_or_fault (with_member (record { line = line; item = entry }) rest) ≡ Ok (entry ∷ entries)
+entries_more line entry rest entries e = grind (arith, rest.fault)
+
 read_from : (number : ℕ) (before names : List (List ℕ)) → AreLineNames names → AreDistinct names → NoneAmong before names
     → genome_from Genome before (lines_from number (order_text names)) ≡ Ok (map longest_entry names)
-unfolding genome_from
-read_from number before [] are distinct none = rw (lines_from-nil number, genome_from) refl
+unfolding good_after
+read_from number before [] are distinct none = rw (lines_from-nil number, good_after) refl
 read_from number before (name ∷ names) are distinct none =
     let more = read_from (suc number) (before ++ name ∷ []) names are.1 distinct.1 (none_more before name names none.1 distinct.0) in
     rw (
       line_is name (order_text names),
       lines_from-fed number (name ++ far) (order_text names) (no_feed name are.0.line),
-      genome_from,
+      good_after,
       no_return name,
       entry_by name are.0,
       none.0,
-      more,
-    ) refl
+    ) (entries_more number (longest_entry name) (good_after genome_format Genome (before ++ name ∷ []) (lines_from (suc number) (order_text names))) (map longest_entry names) more)
 
 pub order_read : order_is_read
 order_read names are distinct = read_from 1 [] names are distinct (none_among names)

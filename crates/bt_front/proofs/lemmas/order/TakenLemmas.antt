@@ -17,8 +17,10 @@ use Rattle.bt_bed.specs.inside.RankTotal.{ranks_total}
 use Rattle.bt_sweep.specs.model.Lines.{intersect_met, subtract_shape}
 use Rattle.bt_sweep.specs.declared.hits.hit_rule.HitRule.{HitRule}
 use Rattle.bt_sweep.specs.declared.output.shape.Shape.{Shape}
-use Rattle.bt_tool.specs.model.Report.{behaviour_of, chromosomes_of, entries_in, of_file, or_empty, order_in_use, report_of, report_on}
-use Rattle.bt_tool.specs.model.Written.{Written, complement_written, coverage_written, intersect_report, merge_written, report_by}
+use Rattle.bt_tool.specs.model.Report.{chromosomes_of, of_file, report_of, report_on}
+use Rattle.bt_tool.specs.model.Behaviour.{behaviour_of, entries_in, or_empty, order_in_use}
+use Rattle.bt_tool.specs.model.Written.{Written, complement_written, coverage_written, merge_written, report_by}
+use Rattle.bt_tool.specs.model.TwoInputs.{intersect_report}
 use Rattle.bt_tool.specs.declared.planning.plan_type.Command.{Command}
 use Rattle.bt_tool.specs.declared.planning.plan_type.Command.TheVariants.{Merge, Complement, Intersect, Subtract, Coverage, BamToBed, MaskFasta}
 use Rattle.bt_front.specs.declared.survey.Survey.{Survey}

@@ -21,7 +21,7 @@ use Rattle.bt_laws.proofs.lemmas.single.Sequences.{owners_stay_so}
 use Rattle.bt_seq.proofs.lemmas.definitions.KnowsLemmas.{is_last, leave, leave_all, one_leaves}
 use Rattle.bt_seq.proofs.lemmas.definitions.MaskPrefixLemmas.{chrom_of, none_leaves}
 use Rattle.bt_seq.proofs.lemmas.Sam.{last_from as last_tagged, own_in, own_tagged, Tagged, tag_decides, tag_items, tags, tags_append, tags_of}
-use Rattle.bt_seq.specs.model.Masked.{block_decides, items_if_last, names_behind as sequences_behind, own_records}
+use Rattle.bt_seq.specs.model.SequenceBlocks.{block_decides, items_if_last, names_behind as sequences_behind, own_records}
 
 abbrev shifted : ℕ → Option ℕ → Option ℕ
 shifted k rank = option_map (λ r. k + r) rank

@@ -12,7 +12,8 @@ use Rattle.bt_bed.proofs.lemmas.Definitions.{met_fault_all, all_written, met_out
 use Rattle.bt_seq.proofs.lemmas.definitions.KnowsLemmas.{leave, leave_all}
 use Rattle.bt_laws.proofs.lemmas.single.Sequences.{faultless_masked, all_decided}
 use Rattle.bt_seq.proofs.lemmas.definitions.MaskPrefixLemmas.{first_is_told, lack_none, items, none_leaves, decided_by_tags, unnamed_own}
-use Rattle.bt_seq.specs.model.Masked.{is_unnamed, mask_met, mask_rule, masked_line, names_of_sequences, no_sequence, SequenceLine, sequence_format, line_decided, bases_up_to}
+use Rattle.bt_seq.specs.model.Masked.{is_unnamed, mask_met, mask_rule, masked_line, names_of_sequences, no_sequence, line_decided}
+use Rattle.bt_seq.specs.model.Fasta.{SequenceLine, sequence_format, bases_up_to}
 use Rattle.bt_seq.specs.declared.mask.mask_how.MaskHow.{MaskHow}
 use Rattle.bt_tool.specs.model.Report.{report_of}
 use Rattle.bt_laws.specs.Parts.{Texts, on_texts, BelongsToNone, MasksNone, begins_sequence, sequence_names, StandsBefore, said_records}

@@ -6,7 +6,8 @@ use Rattle.bt_lines.specs.declared.fault.Input.{Input}
 use Rattle.bt_lines.specs.declared.fault.Kind.TheVariants.{TextBeforeHeader}
 use Rattle.bt_lines.proofs.lemmas.reader.lines.TextLemmas.{lines_from-fed, lines_from-last, by_lines}
 use Rattle.bt_bed.specs.model.Good.{Format, Good, good, good_after, items_in, line_says as record_says, locus_at, block_format, bed_format}
-use Rattle.bt_seq.specs.model.Masked.{is_unnamed, names_of_sequences, Reached, SequenceLine, header_behind, is_sequence_header, line_behind, sequence_says, may_stand, sequence_format}
+use Rattle.bt_seq.specs.model.Masked.{is_unnamed, names_of_sequences}
+use Rattle.bt_seq.specs.model.Fasta.{Reached, SequenceLine, header_behind, is_sequence_header, line_behind, sequence_says, may_stand, sequence_format}
 use Rattle.bt_laws.specs.Parts.{begins_sequence, name_on, sequence_names, StandsBefore, said_records}
 use Rattle.bt_laws.proofs.lemmas.parts.PartLines.{like_from, alike_lines, lines_join, IsLike, put_on, reached, go_from, alike_records, records_on, items_all}
 use Rattle.bt_bed.specs.model.Feature.{Feature}

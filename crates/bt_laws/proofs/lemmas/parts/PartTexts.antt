@@ -7,7 +7,8 @@ use Rattle.bt_seq.specs.model.Alignment.{Alignment, alignment_of, sam_format}
 use Rattle.bt_laws.specs.Parts.{AreOfLines, StandsBefore, joined, ComeBefore, said_records, bamtobed_divides, on_text, ArePairs, PairsAscend, Texts, TextsAscend, intersect_divides, joined_texts, merge_divides, on_texts, subtract_divides, PairsAddUp, AreAtHeaders, WritesOn, MaskTheirOwn, NoneMoves, begins_sequence, maskfasta_divides, repeated_names_divide, AddUp, StopWithin, outputs_to_fault}
 use Rattle.bt_bed.specs.model.Meeting.{Report}
 use Rattle.bt_tool.specs.model.Written.{Written, good_report, alignments_written, merge_written}
-use Rattle.bt_tool.specs.model.Report.{report_of, chromosomes_of, order_in_use}
+use Rattle.bt_tool.specs.model.Report.{report_of, chromosomes_of}
+use Rattle.bt_tool.specs.model.Behaviour.{order_in_use}
 use Rattle.bt_tool.specs.declared.planning.plan_type.Command.TheVariants.{BamToBed, Intersect, Merge, Subtract, MaskFasta}
 use Rattle.bt_laws.proofs.lemmas.parts.PartLines.{good_joint, Earlier, bed_joint, good_earlier, good_known}
 use Rattle.bt_laws.proofs.lemmas.parts.PartReports.{Splits, parts_both, Joins, good_joins, nothing, together, parts_add, stop_more, stop_one}

@@ -10,7 +10,9 @@ use Rattle.bt_bed.specs.model.BedLine.{kept_columns, strand_of}
 use Rattle.bt_bed.specs.calls.Features.{IsName, columns_in}
 use Rattle.bt_bed.specs.declared.record.strand.Strand.TheVariants.{Plus, Minus}
 use Rattle.bt_bed.proofs.lemmas.parse.FeatureLemmas.{kept_is_cut, pieces_are_columns}
-use Rattle.bt_seq.specs.model.Alignment.{Alignment, Fields, alignment_of, sam_columns_say, fields_of, fields_say, value_up_to, bed_lines, read_name, strand_sign, cigar_length, operations_in, parts_of, sam_format}
+use Rattle.bt_seq.specs.model.Alignment.{Alignment, Fields, alignment_of, sam_columns_say, fields_of, fields_say, value_up_to, sam_format}
+use Rattle.bt_seq.specs.model.BedLines.{bed_lines, read_name, strand_sign}
+use Rattle.bt_seq.specs.model.Cigar.{cigar_length, operations_in, parts_of}
 use Rattle.bt_tool.specs.model.Written.{alignment_lines}
 use Rattle.bt_tool.specs.model.Report.{Inputs, report_of}
 use Rattle.bt_tool.specs.declared.planning.plan_type.Command.TheVariants.{BamToBed}
@@ -19,7 +21,7 @@ use Rattle.bt_laws.proofs.lemmas.pipes.LinesBack.{clear_back, clear_both, clear_
 use Rattle.bt_runs.proofs.lemmas.Lists.{all_so}
 use Rattle.bt_lines.specs.declared.reader.line.LineEnd.{LineEnd}
 use Rattle.bt_lines.specs.declared.reader.line.LineEnd.TheVariants.{Absent, Cr, CrLf, Lf}
-use Rattle.bt_seq.specs.model.Masked.{Reached, SequenceLine, is_sequence_header, sequence_format}
+use Rattle.bt_seq.specs.model.Fasta.{Reached, SequenceLine, is_sequence_header, sequence_format}
 use Rattle.bt_laws.proofs.lemmas.parts.PartLines.{items_so}
 use Rattle.bt_laws.proofs.lemmas.single.Records.{number_column}
 

@@ -5,7 +5,7 @@ use Rattle.bt_lines.specs.model.Lines.{TextLine, last_line, lines_from, whole_li
 use Rattle.bt_lines.proofs.lemmas.reader.lines.TextLemmas.{lines_from-fed, lines_from-last, by_lines, whole_lines_from-fed, whole_lines_from-last, lines_from-nil}
 use Rattle.bt_runs.proofs.lemmas.Lists.{all_so, all_any, all_map, map_map, flat_map_same}
 use Rattle.bt_bed.specs.model.Feature.{Feature, interval_of, intervals_of, Interval}
-use Rattle.bt_bed.specs.model.BedLine.{is_header, record_of, strand_of}
+use Rattle.bt_bed.specs.model.BedLine.{says_nothing, record_of, strand_of}
 use Rattle.bt_bed.specs.calls.Features.{IsName, columns_in, is_kept, IsFeature}
 use Rattle.bt_bed.proofs.lemmas.parse.FeatureLemmas.{header_says, record_said, said_is_feature, said_stands, pieces_are_columns}
 use Rattle.bt_laws.proofs.lemmas.single.Records.{written_feature, until_tab, IsDigit, decimal_digits, columns_text}
@@ -17,7 +17,7 @@ use Rattle.bt_bed.specs.model.Order.{Order}
 use Rattle.bt_runs.proofs.lemmas.order.FileOrder.{some_placed}
 use Rattle.bt_laws.specs.Pipes.{IsInput, is_no_header}
 use Rattle.bt_lines.specs.model.Fault.{FaultValue}
-use Rattle.bt_bed.specs.model.Genome.{Entry, columns_give, entry_of, genome_from, genome_handed}
+use Rattle.bt_bed.specs.model.Genome.{Entry, columns_give, entry_of, genome_format, genome_handed}
 use Rattle.bt_bed.proofs.lemmas.Definitions.{line_said}
 use Rattle.bt_laws.proofs.lemmas.parts.PartLines.{items_so}
 
@@ -88,7 +88,7 @@ strip_both byte front back some = grind (arith, common_steps)
 
 -- ---- the first word
 
-pub header_of_name : (chrom tail : List ℕ) → 0 < length chrom → is_header (chrom ++ 9 ∷ tail) ≡ is_header chrom
+pub header_of_name : (chrom tail : List ℕ) → 0 < length chrom → says_nothing (chrom ++ 9 ∷ tail) ≡ says_nothing chrom
 header_of_name [] tail some = absurd (omega arith)
 header_of_name (byte ∷ chrom) tail some = grind (arith, (until_tab (byte ∷ chrom) tail))
 
@@ -99,16 +99,16 @@ abbrev pub record_with : List ℕ → ℕ → ℕ → List ℕ → Feature
 record_with chrom start stop tail = record { chrom = chrom; start = start; stop = stop; strand = strand_of (columns_in tail); rest = tail }
 
 abbrev pub unless_header : List ℕ → Feature → Option Feature
-unless_header chrom r = cond (is_header chrom) None (Some r)
+unless_header chrom r = cond (says_nothing chrom) None (Some r)
 
 module _ (chrom : List ℕ) (start stop : ℕ) (named : IsName chrom) (below : start < stop) (small : stop ≤ 999999999999) where
   pub name_first : (tail : List ℕ) → columns_text chrom start stop tail ≡ chrom ++ 9 ∷ (decimal start ++ 9 ∷ (decimal stop ++ tail))
   name_first tail = simp append_assoc
 
-  header_first : (tail : List ℕ) → is_header (columns_text chrom start stop tail) ≡ is_header chrom
+  header_first : (tail : List ℕ) → says_nothing (columns_text chrom start stop tail) ≡ says_nothing chrom
   header_first tail = grind (arith, name_first, header_of_name)
 
-  first_says : (tail : List ℕ) (b : Bool) → is_header chrom ≡ b → IsTrue (is_kept tail) → record_of (columns_text chrom start stop tail) ≡ Ok (cond b None (Some (record_with chrom start stop tail)))
+  first_says : (tail : List ℕ) (b : Bool) → says_nothing chrom ≡ b → IsTrue (is_kept tail) → record_of (columns_text chrom start stop tail) ≡ Ok (cond b None (Some (record_with chrom start stop tail)))
   first_says tail true e kept = grind (arith, header_says, header_first)
   first_says tail false e kept =
       written_feature (record_with chrom start stop tail) (record { named = named; non_empty = below; in_range = small; kept = kept; stranded = refl })
@@ -243,7 +243,7 @@ module _ (order : Order) (total : IsTotal order) where
 -- a record that a line said, which was no header line and had no line feed
 pub record IsSaid (r : Feature) : Type 0 where
   pub feature : IsFeature r
-  pub no_header : is_header r.chrom ≡ false
+  pub no_header : says_nothing r.chrom ≡ false
   pub clear_name : NoLineFeed r.chrom
   pub clear_rest : NoLineFeed r.rest
 
@@ -255,7 +255,7 @@ line_is_said text r clear e =
     let split : text ≡ r.chrom ++ 9 ∷ (stands.0 ++ r.rest) = stands.1 ∙ simp append_assoc in
     record {
       feature = feature;
-      no_header = sym (header_of_name r.chrom (stands.0 ++ r.rest) feature.named.some) ∙ ap is_header (sym split) ∙ said.0;
+      no_header = sym (header_of_name r.chrom (stands.0 ++ r.rest) feature.named.some) ∙ ap says_nothing (sym split) ∙ said.0;
       clear_name = clear_front r.chrom (9 ∷ (stands.0 ++ r.rest)) (subst NoLineFeed split clear);
       clear_rest = clear_back (r.chrom ++ 9 ∷ stands.0) r.rest (subst NoLineFeed stands.1 clear);
     }
@@ -286,16 +286,11 @@ line_is_chrom : (text : List ℕ) (entry : Entry) → NoLineFeed text → entry_
 unfolding entry_of
 line_is_chrom text entry clear e = columns_said text (pieces 9 text) entry clear refl (grind arith)
 
--- the entries of an answer
-abbrev pub AreChroms : Result (List Entry) FaultValue → Type 0
-AreChroms (Ok entries) = AllByRecursion IsChrom entries
-AreChroms (Err fault) = Unit {0}
-
-chroms_from : (input : Input) (names : List (List ℕ)) (lines : List TextLine) → AreClear lines → AreChroms (genome_from input names lines)
-unfolding genome_from
+chroms_from : (input : Input) (names : List (List ℕ)) (lines : List TextLine) → AreClear lines → AllByRecursion IsChrom (items_in (good_after genome_format input names lines))
+unfolding good_after
 chroms_from input names [] clear = tt
 chroms_from input names (line ∷ lines) clear =
     grind (arith, (entry_of line.text), line_is_chrom, (λ (now : List (List ℕ)). chroms_from input now lines clear.1))
 
 pub genome_chroms : (input : Input) (handed : Handed) (entries : List Entry) → genome_handed input handed ≡ Ok entries → AllByRecursion IsChrom entries
-genome_chroms input handed entries e = grind (arith, chroms_from, clear_handed)
+genome_chroms input handed entries e = grind (arith, chroms_from, clear_handed, (good genome_format input (lines_handed handed)).fault)

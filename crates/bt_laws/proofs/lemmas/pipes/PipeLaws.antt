@@ -27,8 +27,10 @@ use Rattle.bt_sweep.specs.declared.hits.hit_rule.HitRule.{HitRule}
 use Rattle.bt_sweep.specs.declared.output.shape.Shape.{Shape}
 use Rattle.bt_sweep.specs.declared.output.shape.Shape.TheVariants.{Pieces, Whole}
 use Rattle.bt_sweep.proofs.lemmas.definitions.HitLemmas.{faultless_all}
-use Rattle.bt_tool.specs.model.Report.{behaviour_of, entries_in, order_in_use, Inputs, or_empty, chromosomes_of, report_of}
-use Rattle.bt_tool.specs.model.Written.{report_by, met_within, Written, merge_written}
+use Rattle.bt_tool.specs.model.Report.{Inputs, chromosomes_of, report_of}
+use Rattle.bt_tool.specs.model.Behaviour.{behaviour_of, entries_in, order_in_use, or_empty}
+use Rattle.bt_tool.specs.model.Written.{report_by, Written, merge_written}
+use Rattle.bt_tool.specs.model.TwoInputs.{met_within}
 use Rattle.bt_tool.specs.declared.planning.plan_type.Command.{Command}
 use Rattle.bt_tool.specs.declared.planning.plan_type.Command.TheVariants.{Complement, Coverage, Intersect, Merge, Subtract}
 use Rattle.bt_laws.specs.WholeRuns.{RunsWithoutFault, first_records, second_records}

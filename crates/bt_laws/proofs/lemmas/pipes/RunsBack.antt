@@ -4,7 +4,7 @@ use Rattle.bt_lines.specs.calls.Line.{NoLineFeed}
 use Rattle.bt_bed.specs.model.Feature.{Feature, intervals_of, Interval, Span, placed_on, spans_on}
 use Rattle.bt_bed.specs.model.Positions.{IsCovered}
 use Rattle.bt_bed.specs.calls.Stretches.{stretches_from}
-use Rattle.bt_bed.specs.model.BedLine.{is_header, interval_line, interval_lines}
+use Rattle.bt_bed.specs.model.BedLine.{says_nothing, interval_line, interval_lines}
 use Rattle.bt_bed.specs.calls.Features.{IsName}
 use Rattle.bt_bed.specs.calls.Orders.{ArePlaced, IsTotal, AreDistinct}
 use Rattle.bt_bed.specs.model.Order.{Order, rank_order}
@@ -119,7 +119,7 @@ on_written name n spans named clear small h = grind (arith, all_map, all_so)
 pub record IsSaidName (name : List ℕ) : Type 0 where
   pub named : IsName name
   pub clear : NoLineFeed name
-  pub no_header : is_header name ≡ false
+  pub no_header : says_nothing name ≡ false
 
 end_small : (name : List ℕ) (rs : List Interval) → AllByRecursion (λ (r : Interval). r.stop ≤ 999999999999) rs → end_of (spans_on name rs) ≤ 999999999999
 end_small name [] h = omega arith
@@ -132,7 +132,7 @@ runs_within gap spans = scanned _ (end_of spans)
 -- a run, whose name is no header word
 pub record IsRun (r : Interval) : Type 0 where
   pub written : IsWritten r
-  pub no_header : is_header r.chrom ≡ false
+  pub no_header : says_nothing r.chrom ≡ false
 
 runs_are_written : (name : List ℕ) (gap : ℕ) (rs : List Interval) → IsSaidName name → AllByRecursion (λ (r : Interval). r.stop ≤ 999999999999) rs → AllByRecursion IsRun (runs_on name gap rs)
 runs_are_written name gap rs is small = grind (arith, all_map, all_so, (end_small name rs small), (runs_within gap (spans_on name rs)))
@@ -149,7 +149,7 @@ counted_stops : (strand : MergeStrand) (records : List Feature) → AllByRecursi
 counted_stops strand records said = grind (arith, all_map, all_filter, all_so)
 
 no_headers : (rs : List Interval) → AllByRecursion IsRun rs → filter is_no_header (map three_columns rs) ≡ map three_columns rs
-no_headers rs runs = filter_all is_no_header (map three_columns rs) (all_map (λ r. is_no_header r ≡ true) three_columns rs (all_so IsRun (λ r. not (is_header r.chrom) ≡ true) rs (λ r is. ap not is.no_header) runs))
+no_headers rs runs = filter_all is_no_header (map three_columns rs) (all_map (λ r. is_no_header r ≡ true) three_columns rs (all_so IsRun (λ r. not (says_nothing r.chrom) ≡ true) rs (λ r is. ap not is.no_header) runs))
 
 module _ (order : Order) (total : IsTotal order) where
   pub runs_back : (rs : List Interval) → AllByRecursion IsRun rs → ArePlaced order rs → IsInput order (interval_lines rs) (map three_columns rs)

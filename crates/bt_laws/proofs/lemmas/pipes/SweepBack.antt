@@ -3,7 +3,7 @@ use Rattle.bt_lines.proofs.Std.{◌≡◌, ℕ, ◌+◌, ◌-◌, ◌<◌, ◌�
 use Rattle.bt_lines.specs.calls.Line.{NoLineFeed}
 use Rattle.bt_bed.specs.model.Feature.{Feature, interval_of, intervals_of, Interval, Span}
 use Rattle.bt_bed.specs.model.Positions.{AreApartFrom, IsCovered}
-use Rattle.bt_bed.specs.model.BedLine.{is_header, bed_text, cut_to, kept_columns, strand_named}
+use Rattle.bt_bed.specs.model.BedLine.{says_nothing, bed_text, cut_to, kept_columns, strand_named}
 use Rattle.bt_bed.specs.calls.Orders.{ArePlaced, IsTotal}
 use Rattle.bt_bed.specs.model.Order.{Order}
 use Rattle.bt_sweep.specs.model.Hits.{is_hit, hits_among, shared_bases}
@@ -148,8 +148,8 @@ part_at : (shape : Shape) (a : Feature) (found : List Feature) → begins_with_a
 unfolding columns_for hit_columns
 part_at shape a found begins = grind (arith, all_map, all_any)
 
-no_headers : (lines : List Columns) → AllByRecursion (λ (line : Columns). is_header line.at.chrom ≡ false) lines → filter is_no_header (map record_back lines) ≡ map record_back lines
-no_headers lines h = filter_all is_no_header (map record_back lines) (all_map (λ r. is_no_header r ≡ true) record_back lines (all_so (λ (line : Columns). is_header line.at.chrom ≡ false) (λ line. not (is_header line.at.chrom) ≡ true) lines (λ line e. ap not e) h))
+no_headers : (lines : List Columns) → AllByRecursion (λ (line : Columns). says_nothing line.at.chrom ≡ false) lines → filter is_no_header (map record_back lines) ≡ map record_back lines
+no_headers lines h = filter_all is_no_header (map record_back lines) (all_map (λ r. is_no_header r ≡ true) record_back lines (all_so (λ (line : Columns). says_nothing line.at.chrom ≡ false) (λ line. not (says_nothing line.at.chrom) ≡ true) lines (λ line e. ap not e) h))
 
 pub pairs_of_places : (order : Order) (total : IsTotal order) (as_read : List Feature) → EachPair (UpTo order total) (intervals_of as_read) → EachPair (λ (a b : Feature). UpTo order total (interval_of a) (interval_of b)) as_read
 pairs_of_places order total as_read h = grind (arith, pairs_from_map)
@@ -187,7 +187,7 @@ module _ (order : Order) (total : IsTotal order) (shape : Shape) (rule : HitRule
   unfolding lines all_columns part
   all_are = grind (arith, all_flat_map, all_so, part_is, all_hits)
 
-  all_named : AllByRecursion (λ (line : Columns). is_header line.at.chrom ≡ false) lines
+  all_named : AllByRecursion (λ (line : Columns). says_nothing line.at.chrom ≡ false) lines
   unfolding lines all_columns part
   all_named = grind (arith, all_flat_map, all_so, part_named)
 

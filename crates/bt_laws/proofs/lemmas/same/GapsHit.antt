@@ -5,7 +5,7 @@ use Rattle.bt_lines.specs.declared.fault.Input.TheVariants.{First, Second}
 use Rattle.bt_bed.specs.model.Feature.{Feature, interval_of, intervals_of, Interval, Span, spans_on, placed_on}
 use Rattle.bt_bed.specs.model.Positions.{AreApartFrom, IsCovered}
 use Rattle.bt_bed.specs.calls.Stretches.{stretches_from}
-use Rattle.bt_bed.specs.model.BedLine.{is_header, interval_lines}
+use Rattle.bt_bed.specs.model.BedLine.{says_nothing, interval_lines}
 use Rattle.bt_bed.specs.model.Genome.{Entry, genome_names}
 use Rattle.bt_bed.specs.model.Good.{bed_good}
 use Rattle.bt_bed.specs.model.Order.{Order, is_among}
@@ -21,7 +21,8 @@ use Rattle.bt_sweep.specs.model.Lines.{intersect, lines_for, piece_line, pieces}
 use Rattle.bt_sweep.specs.calls.LineLaws.{spans_of}
 use Rattle.bt_sweep.specs.declared.output.shape.Shape.TheVariants.{Cut, Pieces}
 use Rattle.bt_sweep.proofs.lemmas.definitions.PieceLemmas.{only_pieces}
-use Rattle.bt_tool.specs.model.Report.{order_in_use, Inputs, or_empty, chromosomes_of}
+use Rattle.bt_tool.specs.model.Report.{Inputs, chromosomes_of}
+use Rattle.bt_tool.specs.model.Behaviour.{order_in_use, or_empty}
 use Rattle.bt_tool.specs.declared.planning.plan_type.Command.TheVariants.{Complement, Intersect, Subtract}
 use Rattle.bt_laws.specs.WholeRuns.{first_records, second_records, RunWrites, of_second, with_second_input}
 use Rattle.bt_laws.specs.Same.{LieWithinLengths, subtract_by_complement}
@@ -60,7 +61,7 @@ unfolding complement
 complement_spans entries records name distinct = grind (arith, filter_all, all_any, (spans_there (λ n size. gaps_of size (spans_on n (intervals_of records))) (λ n. no_gaps (spans_on n (intervals_of records))) name entries distinct))
 
 -- lines of header words hide nothing of another chromosome
-pub unhidden : (name : List ℕ) (rs : List Interval) → is_header name ≡ false → spans_on name (intervals_of (filter is_no_header (map three_columns rs))) ≡ spans_on name rs
+pub unhidden : (name : List ℕ) (rs : List Interval) → says_nothing name ≡ false → spans_on name (intervals_of (filter is_no_header (map three_columns rs))) ≡ spans_on name rs
 unhidden name [] e = refl
 unhidden name (r ∷ rs) e = grind (arith, (unhidden name rs e), rules)
 

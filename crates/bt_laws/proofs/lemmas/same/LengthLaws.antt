@@ -9,7 +9,8 @@ use Rattle.bt_bed.specs.model.Levels.{HasValue, Level}
 use Rattle.bt_laws.specs.Runs.{interval_at}
 use Rattle.bt_runs.specs.model.Depth.{DepthInterval, counted_on, coverage, depth_lines, depth_of, depth_on, depths_on, levels_of, depth_at}
 use Rattle.bt_laws.proofs.lemmas.single.LevelLemmas.{gaps_depth_0, are_levels, only_levels, some_value, value_some, some_disjoint}
-use Rattle.bt_tool.specs.model.Report.{entries_in, order_in_use, report_of}
+use Rattle.bt_tool.specs.model.Report.{report_of}
+use Rattle.bt_tool.specs.model.Behaviour.{entries_in, order_in_use}
 use Rattle.bt_tool.specs.model.Written.{complement_written, coverage_written, merge_written}
 use Rattle.bt_tool.specs.declared.planning.plan_type.Command.TheVariants.{Complement, Coverage, Merge}
 use Rattle.bt_laws.specs.WholeRuns.{first_records}
@@ -17,7 +18,7 @@ use Rattle.bt_laws.specs.Same.{bg_is_bga_above_0, depth_0_is_complement, without
 use Rattle.bt_laws.proofs.lemmas.pipes.PipeLaws.{complement_whole, genomecov_whole, runs_cover, SameCover, covered_some, some_covered, chroms_of, merge_whole}
 use Rattle.bt_laws.proofs.lemmas.same.SameRuns.{fault_as, told_same, CoversOn, alike_merged, all_counted, runs_on_output, some_covers}
 use Rattle.bt_bed.specs.model.Positions.{AreApartFrom, IsCovered}
-use Rattle.bt_bed.specs.model.BedLine.{is_header, interval_lines}
+use Rattle.bt_bed.specs.model.BedLine.{says_nothing, interval_lines}
 use Rattle.bt_bed.specs.calls.Orders.{ArePlaced, AreDistinct}
 use Rattle.bt_bed.specs.model.Order.{Order, is_among, rank_order}
 use Rattle.bt_bed.proofs.lemmas.Definitions.{placed_good}
@@ -172,16 +173,16 @@ module _ (entries : List Entry) (distinct : AreDistinct (genome_names entries)) 
   unfolding merged
   by_entries = grind (arith, (file_ordered (genome_names entries) 0 All records distinct placed), (all_counted records))
 
-  gap_twice : (e : Entry) → is_header e.name ≡ false → length_in entries e.name ≡ e.length → gaps_on (intervals_of gap_records) e ≡ map (placed_on e.name) (cut_spans e.length (runs_of 0 (spans_on e.name (intervals_of records))))
+  gap_twice : (e : Entry) → says_nothing e.name ≡ false → length_in entries e.name ≡ e.length → gaps_on (intervals_of gap_records) e ≡ map (placed_on e.name) (cut_spans e.length (runs_of 0 (spans_on e.name (intervals_of records))))
   gap_twice e plain size = grind (arith, unhidden, complement_spans, gaps_twice)
 
-  pub complement_twice : AllByRecursion (λ (e : Entry). is_header e.name ≡ false) entries → complement false entries gap_records ≡ flat_map (cut_at_length entries) (ordered_runs order 0 All records)
+  pub complement_twice : AllByRecursion (λ (e : Entry). says_nothing e.name ≡ false) entries → complement false entries gap_records ≡ flat_map (cut_at_length entries) (ordered_runs order 0 All records)
   unfolding complement
   complement_twice plain =
       let lengths = lengths_are entries distinct in
       ap (flat_map (gaps_on (intervals_of gap_records))) (filter_all (is_asked false (intervals_of gap_records)) entries (all_any _ entries (λ e. refl)))
       ∙ flat_map_same (gaps_on (intervals_of gap_records)) (λ (e : Entry). map (placed_on e.name) (cut_spans e.length (runs_of 0 (spans_on e.name (intervals_of records))))) entries
-      (all_zip (λ (e : Entry). is_header e.name ≡ false) (λ (e : Entry). length_in entries e.name ≡ e.length) _ entries gap_twice plain lengths)
+      (all_zip (λ (e : Entry). says_nothing e.name ≡ false) (λ (e : Entry). length_in entries e.name ≡ e.length) _ entries gap_twice plain lengths)
       ∙ sym (ap (flat_map (cut_at_length entries)) by_entries ∙ cut_all entries (intervals_of records) entries lengths)
 
 pub complements_twice : complement_of_complement
@@ -247,12 +248,12 @@ covered_within entries name records p within c =
     (λ r w up. subst (λ n. p < length_in entries n) w.0 (omega (arith, w.2, up))) records (some_covers name p records c) within)
 
 -- lines of header words
-unhidden_depths : (name : List ℕ) (rs : List DepthInterval) → is_header name ≡ false → spans_on name (intervals_of (filter is_no_header (map four_columns rs))) ≡ spans_on name (map interval_at rs)
+unhidden_depths : (name : List ℕ) (rs : List DepthInterval) → says_nothing name ≡ false → spans_on name (intervals_of (filter is_no_header (map four_columns rs))) ≡ spans_on name (map interval_at rs)
 unhidden_depths name [] e = refl
 unhidden_depths name (r ∷ rs) e = grind (arith, (unhidden_depths name rs e), rules)
 
 -- no record that was read lies on a chromosome of a header word
-none_hidden : (name : List ℕ) (records : List Feature) → is_header name ≡ true → AllByRecursion IsSaid records → spans_on name (intervals_of records) ≡ []
+none_hidden : (name : List ℕ) (records : List Feature) → says_nothing name ≡ true → AllByRecursion IsSaid records → spans_on name (intervals_of records) ≡ []
 none_hidden name [] e said = refl
 none_hidden name (r ∷ rs) e said = grind (arith, (none_hidden name rs e said.1), cases_name)
 
@@ -260,7 +261,7 @@ module _ (entries : List Entry) (distinct : AreDistinct (genome_names entries)) 
     (read : List Feature) (read_said : AllByRecursion IsSaid read) (is : read ≡ filter is_no_header (map four_columns (coverage false None entries records))) where
   same_bases : (name : List ℕ) → SameCover (spans_on name (intervals_of read)) (spans_on name (intervals_of records))
   unfolding coverage
-  same_bases name = elim (cases_Bool (is_header name)) [
+  same_bases name = elim (cases_Bool (says_nothing name)) [
     | inl t ↦ subst (λ l. SameCover l (spans_on name (intervals_of records))) (sym (none_hidden name read t read_said)) (subst (SameCover []) (sym (none_hidden name records t said)) (record { to = λ p c. c; back = λ p c. c }))
     | inr f ↦ grind (arith, unhidden_depths, depths_there, depth_cover, covered_within)
   ]

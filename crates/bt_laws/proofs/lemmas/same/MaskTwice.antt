@@ -6,10 +6,13 @@ use Rattle.bt_lines.specs.declared.fault.Input.TheVariants.{First, Second}
 use Rattle.bt_bed.specs.model.Feature.{Feature, intervals_of, Interval, record_covers}
 use Rattle.bt_bed.specs.model.Genome.{Entry}
 use Rattle.bt_bed.specs.model.Good.{Good, good, items_in, block_good, bed_good, said_after}
-use Rattle.bt_seq.specs.model.Masked.{masked_byte, masked_from, masked_line, masked_text, names_of_sequences, own_records, SequenceLine, sequence_format, sequence_good, bases_up_to, items_if_last, names_behind}
+use Rattle.bt_seq.specs.model.Masked.{masked_byte, masked_from, masked_line, masked_text, names_of_sequences}
+use Rattle.bt_seq.specs.model.Fasta.{SequenceLine, sequence_format, sequence_good, bases_up_to}
+use Rattle.bt_seq.specs.model.SequenceBlocks.{own_records, items_if_last, names_behind}
 use Rattle.bt_seq.specs.declared.mask.mask_how.MaskHow.{MaskHow}
 use Rattle.bt_seq.specs.declared.mask.mask_how.MaskHow.TheVariants.{Soft, Hard}
-use Rattle.bt_tool.specs.model.Report.{Inputs, or_empty, report_of, order_in_use}
+use Rattle.bt_tool.specs.model.Report.{Inputs, report_of}
+use Rattle.bt_tool.specs.model.Behaviour.{or_empty, order_in_use}
 use Rattle.bt_bed.specs.model.Meeting.{Report}
 use Rattle.bt_tool.specs.declared.planning.plan_type.Command.TheVariants.{MaskFasta, Merge}
 use Rattle.bt_laws.specs.Same.{KeepsLines, layout_of, masked_keep_layout, masked_twice, sequence_lines, masked_by_both, masked_by_positions, masked_goes_on, with_bed, masked_by_merged, with_merged_bed, NamesOne, bed_records, is_masked, masked_by_sorted}

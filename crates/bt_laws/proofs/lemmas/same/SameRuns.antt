@@ -23,7 +23,8 @@ use Rattle.bt_runs.specs.model.Gaps.{complement}
 use Rattle.bt_laws.specs.Runs.{AreKnown}
 use Rattle.bt_runs.specs.declared.merge.merge_strand.MergeStrand.{MergeStrand}
 use Rattle.bt_runs.specs.declared.merge.merge_strand.MergeStrand.TheVariants.{All, Each, One}
-use Rattle.bt_tool.specs.model.Report.{entries_in, order_in_use, Inputs, report_of, behaviour_of, chromosomes_of}
+use Rattle.bt_tool.specs.model.Report.{Inputs, report_of, chromosomes_of}
+use Rattle.bt_tool.specs.model.Behaviour.{entries_in, order_in_use, behaviour_of}
 use Rattle.bt_tool.specs.declared.planning.plan_type.Command.TheVariants.{Complement, Merge}
 use Rattle.bt_laws.specs.WholeRuns.{RunsWithoutFault, first_records, RunWrites, piped}
 use Rattle.bt_laws.specs.Same.{IsRepeated, exchanged_complement, exchanged_genomecov, exchanged_merge, repeated_complement, repeated_merge, complement_of_merge, merge_of_merge}

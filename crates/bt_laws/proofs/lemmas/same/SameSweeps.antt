@@ -17,8 +17,9 @@ use Rattle.bt_sweep.specs.calls.LineLaws.{spans_of}
 use Rattle.bt_sweep.specs.declared.hits.hit_rule.HitRule.{HitRule}
 use Rattle.bt_sweep.specs.declared.output.shape.Shape.{Shape}
 use Rattle.bt_sweep.specs.declared.output.shape.Shape.TheVariants.{Count, Missing, Once, OrigA, Pieces}
-use Rattle.bt_tool.specs.model.Report.{order_in_use, behaviour_of, Inputs, or_empty, chromosomes_of, report_of}
-use Rattle.bt_tool.specs.model.Written.{met_within}
+use Rattle.bt_tool.specs.model.Report.{Inputs, chromosomes_of, report_of}
+use Rattle.bt_tool.specs.model.Behaviour.{order_in_use, behaviour_of, or_empty}
+use Rattle.bt_tool.specs.model.TwoInputs.{met_within}
 use Rattle.bt_tool.specs.declared.planning.plan_type.Command.TheVariants.{Intersect, Merge}
 use Rattle.bt_laws.specs.WholeRuns.{RunsWithoutFault, first_records, second_records, RunWrites, of_second, with_second_input}
 use Rattle.bt_laws.specs.Same.{Counted, counts_say_all, missing_is_whole, own_line, with_hits, merged_second_missing, merged_second_once, merged_second_subtract, one_base}
@@ -45,7 +46,7 @@ use Rattle.bt_laws.proofs.lemmas.pipes.LinesBack.{IsSaid, good_are_said}
 use Rattle.bt_laws.proofs.lemmas.pipes.SweepBack.{Hit, all_hits, cut_bounds, same_name}
 use Rattle.bt_laws.proofs.lemmas.parts.PartTexts.{order_total}
 use Rattle.bt_runs.proofs.lemmas.merge.Bridging.{is_covered-Decides}
-use Rattle.bt_seq.specs.model.Masked.{Block, Owned, blocks_by, items_if_last, left_by, own_records, owned_from}
+use Rattle.bt_seq.specs.model.SequenceBlocks.{Block, Owned, blocks_by, items_if_last, left_by, own_records, owned_from}
 use Rattle.bt_seq.specs.calls.MaskState.{left_at_last}
 use Rattle.bt_seq.proofs.lemmas.definitions.KnowsLemmas.{leave, leave_all}
 use Rattle.bt_laws.proofs.lemmas.pipes.Placing.{others}

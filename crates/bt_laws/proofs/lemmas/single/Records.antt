@@ -1,5 +1,5 @@
 -- Lemmas on lines, records and their orders.
-use Rattle.bt_lines.proofs.Std.{◌≡◌, ℕ, Bool, true, false, cond, List, [], ◌∷◌, Option, Some, None, Result, Ok, Err, refl, sym, ap, ◌∙◌, ⊤, length, arith, zero, suc, ◌+◌, ◌<◌, ◌≤◌, take, ◌++◌, append_assoc, append-nil, IfErr, decimal, lt-ltb, decimal_is_IsNumeral, digit_from_value, is_ascii_digit, AllByRecursion, list_all, AllDigits, IsTrue, ◌⊎◌, inl, inr, bytes_eq, or_parts, or_from, digit_glyph, digits_onto, ◌/◌, ◌%◌, All-from_recursion, codes}
+use Rattle.bt_lines.proofs.Std.{◌≡◌, ℕ, Bool, true, false, cond, List, [], ◌∷◌, Option, Some, None, Result, Ok, Err, refl, sym, ap, ◌∙◌, ⊤, length, arith, zero, suc, ◌+◌, ◌<◌, ◌≤◌, take, ◌++◌, append_assoc, append-nil, IfErr, IfSome, decimal, lt-ltb, decimal_is_IsNumeral, digit_from_value, is_ascii_digit, AllByRecursion, list_all, AllDigits, IsTrue, ◌⊎◌, inl, inr, bytes_eq, or_parts, or_from, digit_glyph, digits_onto, ◌/◌, ◌%◌, All-from_recursion, codes}
 use Rattle.bt_lines.specs.model.Fault.{FaultValue}
 use Rattle.bt_lines.specs.model.Lines.{TextLine, pieces, value_of, text_lines}
 use Rattle.bt_lines.specs.calls.Line.{AreNumbered}
@@ -9,7 +9,7 @@ use Rattle.bt_lines.specs.declared.fault.Kind.TheVariants.{UnknownChrom}
 use Rattle.bt_bed.specs.model.Feature.{Interval, last_from}
 use Rattle.bt_bed.specs.model.BedLine.{record_of, ends_word, first_word, kept_columns}
 use Rattle.bt_bed.specs.calls.Features.{columns_in, said_are_features, IsName, is_kept}
-use Rattle.bt_bed.specs.model.Good.{good_after, line_says, block_format, bed_format}
+use Rattle.bt_bed.specs.model.Good.{Good, bed_format, block_format, good, good_after, good_with, items_in, line_says}
 use Rattle.bt_bed.specs.model.Meeting.{Rule, join_report, written}
 use Rattle.bt_laws.specs.Records.{blocks_know_each_chromosome, good_stand_on_lines, first_lines_have_the_first, good_in_blocks_are_non_empty, good_in_blocks_stand_on_lines, genome_names_are_distinct, first_lines_make_entries, read_are_rewritten, written_are_read, StaysDecided, bytes_know_each_chromosome, first_difference_decides, prefixes_come_first, shared_are_common, stretches_are_one, contiguous_grows}
 use Rattle.bt_bed.specs.model.Sorted.{Locus, sorting_of, has_records}
@@ -20,8 +20,8 @@ use Rattle.bt_bed.proofs.lemmas.Definitions.{non_empty_from, met_output, written
 use Rattle.bt_bed.proofs.lemmas.StretchScans.{stretches_are_same}
 use Rattle.bt_bed.specs.calls.Reading.{IsFaultBeyond}
 use Rattle.bt_bed.specs.model.Order.{byte_order}
-use Rattle.bt_bed.specs.model.Genome.{Entry, genome_names, genome_from, genome_with, new_entry, entry_of, with_entry}
-use Rattle.bt_bed.proofs.lemmas.order.TableLemmas.{distinct_push, is_new, ok_entries}
+use Rattle.bt_bed.specs.model.Genome.{Entry, entry_of, genome_format, genome_names, new_entry}
+use Rattle.bt_bed.proofs.lemmas.order.TableLemmas.{distinct_push, is_new}
 use Rattle.bt_bed.proofs.lemmas.read.ColumnLemmas.{kept_again}
 use Rattle.bt_bed.proofs.lemmas.parse.FeatureLemmas.{columns_of_line, record_said, said_is_feature, said_stands, whole, of_word, kept_is_cut, pieces_are_columns, header_before_tab}
 use Rattle.bt_bed.proofs.lemmas.parse.NameLemmas.{name_ne, name_ne-sym}
@@ -78,55 +78,40 @@ good_blocks_on_lines input text =
 
 -- Lemmas on the entries of a genome file.
 
-abbrev KeepsDistinct : List (List ℕ) → Result (List Entry) FaultValue → Type 0
-KeepsDistinct names result = (entries : List Entry) → result ≡ Ok entries → AreDistinct (names ++ genome_names entries)
+abbrev KeepsDistinct : List (List ℕ) → Good Entry → Type 0
+KeepsDistinct names good = AreDistinct (names ++ genome_names (items_in good))
 
-distinct_with : (input : Input) (line : TextLine) (names : List (List ℕ)) (rest : List (List ℕ) → Result (List Entry) FaultValue) → AreDistinct names
-    → ((now : List (List ℕ)) → AreDistinct now → KeepsDistinct now (rest now))
-    → (said : Result (Option Entry) Kind) → new_entry names (entry_of line.text) ≡ said → KeepsDistinct names (genome_with input line.number names said rest)
-distinct_with input line names rest d h (Err kind) was entries e = cc
-distinct_with input line names rest d h (Ok None) was entries e = h names d entries e
-distinct_with input line names rest d h (Ok (Some entry)) was entries e =
-    let parts = ok_entries entry (rest (names ++ entry.name ∷ [])) entries e in
-    let more = h (names ++ entry.name ∷ []) (distinct_push names entry.name d (is_new names (entry_of line.text) entry was)) parts.0 parts.1 in
+distinct_with : (input : Input) (line : TextLine) (names : List (List ℕ)) (rest : List (List ℕ) → Good Entry) → AreDistinct names → ((now : List (List ℕ)) → AreDistinct now → KeepsDistinct now (rest now))
+    → (said : Result (Option Entry) Kind) → new_entry names (entry_of line.text) ≡ said → KeepsDistinct names (good_with genome_format input line.number names said rest)
+distinct_with input line names rest d h (Err kind) was = grind (arith, append-nil)
+distinct_with input line names rest d h (Ok None) was = h names d
+distinct_with input line names rest d h (Ok (Some entry)) was =
+    let more = h (names ++ entry.name ∷ []) (distinct_push names entry.name d (is_new names (entry_of line.text) entry was)) in
     grind (arith, append_assoc)
 
-distinct_from : (input : Input) (names : List (List ℕ)) (lines : List TextLine) → AreDistinct names → KeepsDistinct names (genome_from input names lines)
-unfolding genome_from
-distinct_from input names [] d entries e = grind (arith, append-nil)
-distinct_from input names (line ∷ lines) d entries e =
-    distinct_with input line names (λ now. genome_from input now lines) d (λ now fresh. distinct_from input now lines fresh) (new_entry names (entry_of line.text)) refl entries e
+distinct_from : (input : Input) (names : List (List ℕ)) (lines : List TextLine) → AreDistinct names → KeepsDistinct names (good_after genome_format input names lines)
+unfolding good_after
+distinct_from input names [] d = grind (arith, append-nil)
+distinct_from input names (line ∷ lines) d =
+    distinct_with input line names (λ now. good_after genome_format input now lines) d (λ now fresh. distinct_from input now lines fresh) (new_entry names (entry_of line.text)) refl
 
 -- no chromosome of a genome file comes twice
 pub distinct_genome : genome_names_are_distinct
-distinct_genome input lines entries e = distinct_from input [] lines tt entries e
-
-first_with : (input : Input) (count number : ℕ) (names : List (List ℕ)) (said : Result (Option Entry) Kind) (whole taken : List (List ℕ) → Result (List Entry) FaultValue) → number ≤ count
-    → ((now : List (List ℕ)) → IfErr (whole now) (IsFaultBeyond count) → (entries : List Entry) × (taken now ≡ Ok entries))
-    → IfErr (genome_with input number names said whole) (IsFaultBeyond count) → (entries : List Entry) × (genome_with input number names said taken ≡ Ok entries)
-first_with input count number names (Err kind) whole taken low h beyond = grind arith
-first_with input count number names (Ok None) whole taken low h beyond = h names beyond
-first_with input count number names (Ok (Some entry)) whole taken low h beyond =
-    let now = names ++ entry.name ∷ [] in
-    let more = h now (err_behind count entry (whole now) beyond) in
-    (entry ∷ more.0, ap (with_entry entry) more.1)
-  where
-    err_behind : (count : ℕ) (entry : Entry) (result : Result (List Entry) FaultValue) → IfErr (with_entry entry result) (IsFaultBeyond count) → IfErr result (IsFaultBeyond count)
-    err_behind count entry (Ok entries) beyond = tt
-    err_behind count entry (Err fault) beyond = beyond
+distinct_genome input lines entries e = grind (arith, (good genome_format input lines).fault, (distinct_from input [] lines tt))
 
 -- if the fault, if there is one, lies after the first lines, these have none
-pub first_entries_from : (input : Input) (more count number : ℕ) (names : List (List ℕ)) (lines : List TextLine) → suc count ≡ number + more → AreNumbered number lines
-    → IfErr (genome_from input names lines) (IsFaultBeyond count) → (entries : List Entry) × (genome_from input names (take more lines) ≡ Ok entries)
-unfolding genome_from
-first_entries_from input zero count number names lines size n beyond = ([], refl)
-first_entries_from input (suc more) count number names [] size n beyond = ([], refl)
-first_entries_from input (suc more) count number names (line ∷ lines) size n beyond =
-    first_with input count line.number names (new_entry names (entry_of line.text)) (λ now. genome_from input now lines) (λ now. genome_from input now (take more lines)) (omega arith)
-    (λ now later. first_entries_from input more count (suc number) now lines (omega arith) n.1 later) beyond
+faultless_from : (input : Input) (more count number : ℕ) (names : List (List ℕ)) (lines : List TextLine) → suc count ≡ number + more → AreNumbered number lines
+    → IfSome (good_after genome_format input names lines).fault (IsFaultBeyond count) → (good_after genome_format input names (take more lines)).fault ≡ None
+unfolding good_after
+faultless_from input zero count number names lines size n beyond = refl
+faultless_from input (suc more) count number names [] size n beyond = refl
+faultless_from input (suc more) count number names (line ∷ lines) size n beyond =
+    grind (arith, (new_entry names (entry_of line.text)), (λ (now : List (List ℕ)). faultless_from input more count (suc number) now lines (omega arith) n.1))
 
 pub first_make_entries : first_lines_make_entries
-first_make_entries input count text beyond = first_entries_from input count count 1 [] (text_lines text) (omega arith) (lines_are_numbered 1 text) beyond
+first_make_entries input count text beyond =
+    let none = faultless_from input count count 1 [] (text_lines text) (omega arith) (lines_are_numbered 1 text) (grind (arith, (good genome_format input (text_lines text)).fault)) in
+    (items_in (good genome_format input (take count (text_lines text))), grind arith)
 
 -- What a line says is said by its bytes, written anew.
 

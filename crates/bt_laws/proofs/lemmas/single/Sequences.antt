@@ -1,10 +1,13 @@
 -- Lemmas on alignments and masked sequences.
 use Rattle.bt_lines.proofs.Std.{common_steps, rules, ◌≡◌, ℕ, ◌<◌, ◌≤◌, Bool, true, false, cond, List, [], ◌∷◌, ◌++◌, length, Option, Some, None, refl, sym, ap, ◌∙◌, length-append, arith, bytes_eq, append_cancel_right, ◌+◌, subst, sum_by-cons, add-zero, not, list_all, and_parts, append_assoc, flat_map, AllByRecursion, ◌≢◌, bytes_decides}
 use Rattle.bt_bed.specs.model.Feature.{Feature, Span}
-use Rattle.bt_seq.specs.model.Masked.{Block, blocks_by, names_behind, owned_from, mask_rule, SequenceLine}
+use Rattle.bt_seq.specs.model.Masked.{mask_rule}
+use Rattle.bt_seq.specs.model.Fasta.{SequenceLine}
+use Rattle.bt_seq.specs.model.SequenceBlocks.{Block, blocks_by, names_behind, owned_from}
 use Rattle.bt_seq.specs.calls.MaskState.{left_at_last}
 use Rattle.bt_laws.specs.Sequences.{owners_stay, owners_were, AreBetween, blocks_are_within, unskipped_are_one_block, Divides, division_is_found, division_is_one, is_operation, operations_are_divided, part_bytes, early_mask_rule, faultless_are_masked, masked_are_a_prefix, AreApart, AreOfChrom, DividesAt, blocks_are_maximal_runs, items_of, owners_are_first, unowned_find_no_name, quiet_records_are_taken, taken_are_first}
-use Rattle.bt_seq.specs.model.Alignment.{is_skip, with_bases, covered_by, reference_length, Part, each_operation, is_letter, onto_part, operations_in, parts_of, with_part}
+use Rattle.bt_seq.specs.model.BedLines.{is_skip, with_bases}
+use Rattle.bt_seq.specs.model.Cigar.{covered_by, reference_length, Part, each_operation, is_letter, onto_part, operations_in, parts_of, with_part}
 use Rattle.bt_seq.specs.declared.sam.cigar.Operation.{Operation}
 use Rattle.bt_seq.proofs.lemmas.Sam.{blocks_open, open_blocks, skip_covers, digits_no_letters, parts_cut}
 use Rattle.bt_lines.specs.model.Lines.{value_of}

@@ -4,7 +4,9 @@ use Rattle.bt_lines.specs.model.Lines.{lines_from, value_of}
 use Rattle.bt_bed.specs.model.Good.{good_after, line_says}
 use Rattle.bt_bed.specs.calls.Stretches.{stretches_from, with_position}
 use Rattle.bt_bed.specs.model.BedLine.{record_of}
-use Rattle.bt_seq.specs.model.Alignment.{alignment_of, fields_say, blocks_of, operations_in}
+use Rattle.bt_seq.specs.model.Alignment.{alignment_of, fields_say}
+use Rattle.bt_seq.specs.model.BedLines.{blocks_of}
+use Rattle.bt_seq.specs.model.Cigar.{operations_in}
 use Rattle.bt_sweep.specs.model.Hits.{has_fraction, is_hit, is_enough, strands_agree}
 use Rattle.bt_sweep.specs.model.Lines.{lines_for, pieces}
 use Rattle.bt_tool.specs.model.Report.{report_of}

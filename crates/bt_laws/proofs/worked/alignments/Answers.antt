@@ -2,7 +2,9 @@ use Rattle.bt_lines.proofs.Std.{refl}
 use Rattle.bt_bed.specs.model.BedLine.{record_of}
 use Rattle.bt_bed.specs.model.Good.{good_after}
 use Rattle.bt_lines.specs.model.Lines.{lines_from, value_of}
-use Rattle.bt_seq.specs.model.Alignment.{alignment_of, blocks_of, fields_say, operations_in}
+use Rattle.bt_seq.specs.model.Alignment.{alignment_of, fields_say}
+use Rattle.bt_seq.specs.model.BedLines.{blocks_of}
+use Rattle.bt_seq.specs.model.Cigar.{operations_in}
 use Rattle.bt_tool.specs.model.Report.{report_of}
 use Rattle.std.specs.Fmt.{digits}
 use Rattle.bt_laws.proofs.worked.alignments.Goals as goal

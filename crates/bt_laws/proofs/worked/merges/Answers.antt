@@ -1,6 +1,6 @@
 use Rattle.bt_lines.proofs.Std.{refl}
 use Rattle.bt_bed.specs.model.BedLine.{record_of}
-use Rattle.bt_bed.specs.model.Genome.{entry_of, genome_from}
+use Rattle.bt_bed.specs.model.Genome.{entry_of}
 use Rattle.bt_bed.specs.model.Good.{good_after, line_says}
 use Rattle.bt_bed.specs.calls.Stretches.{stretches_from, with_position}
 use Rattle.bt_lines.specs.model.Lines.{lines_from, value_of}
@@ -34,7 +34,7 @@ unfolding report_of lines_from value_of good_after line_says record_of digits st
 returns-clause-by_name c = refl
 
 pub returns-clause-by_rank : goal.returns-clause-by_rank
-unfolding report_of lines_from value_of good_after line_says record_of digits stretches_from with_position is_bridged runs_of merged ordered_runs genome_from entry_of
+unfolding report_of lines_from value_of good_after line_says record_of digits stretches_from with_position is_bridged runs_of merged ordered_runs entry_of
 returns-clause-by_rank c = refl
 
 pub returns-clause-out_of_order : goal.returns-clause-out_of_order
@@ -46,5 +46,5 @@ unfolding report_of lines_from value_of good_after line_says record_of digits st
 returns-clause-settled_strands c = refl
 
 pub returns-clause-an_index : goal.returns-clause-an_index
-unfolding report_of lines_from value_of good_after line_says record_of digits stretches_from with_position is_bridged runs_of merged ordered_runs genome_from entry_of
+unfolding report_of lines_from value_of good_after line_says record_of digits stretches_from with_position is_bridged runs_of merged ordered_runs entry_of
 returns-clause-an_index c = refl

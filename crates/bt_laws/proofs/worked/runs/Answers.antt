@@ -1,6 +1,6 @@
 use Rattle.bt_lines.proofs.Std.{refl}
 use Rattle.bt_bed.specs.model.BedLine.{record_of}
-use Rattle.bt_bed.specs.model.Genome.{entry_of, genome_from}
+use Rattle.bt_bed.specs.model.Genome.{entry_of}
 use Rattle.bt_bed.specs.model.Good.{good_after, line_says}
 use Rattle.bt_bed.specs.calls.Stretches.{stretches_from, with_position}
 use Rattle.bt_lines.specs.model.Lines.{lines_from, value_of}
@@ -26,7 +26,7 @@ unfolding report_of lines_from value_of good_after line_says record_of digits st
 returns-clause-of_standard_input c = refl
 
 pub returns-clause-of_the_genome_file : goal.returns-clause-of_the_genome_file
-unfolding report_of lines_from value_of record_of digits with_position genome_from entry_of report options word_fault items_of
+unfolding report_of lines_from value_of record_of digits with_position good_after entry_of report options word_fault items_of
 returns-clause-of_the_genome_file c = refl
 
 pub returns-clause-of_the_second : goal.returns-clause-of_the_second

@@ -47,6 +47,9 @@ value_of_whole text i value some end e all small = grind (arith, take_all, value
 pub digit_small : (b : ℕ) → is_ascii_digit b ≡ true → b - 48 ≤ 9
 digit_small b digit = grind arith
 
+pub digit_bound : (b : ℕ) → is_ascii_digit b ≡ true → b ≤ 57
+digit_bound b digit = grind arith
+
 -- one digit more than `i` digits
 pub value_below : (i value digit : ℕ) → value < 10 ^ i → digit ≤ 9 → value * 10 + digit < 10 ^ (i + 1)
 value_below i value digit below small = rw (add-one i, pow-suc 10 i) (omega (arith, below, small))

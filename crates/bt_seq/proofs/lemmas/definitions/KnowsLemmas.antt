@@ -1,7 +1,7 @@
 -- Lemmas on the names that blocks leave, record by record.
 use Rattle.bt_lines.proofs.Std.{◌≡◌, ℕ, Bool, true, false, cond, List, [], ◌∷◌, ◌++◌, Option, Some, None, refl, sym, ap, ◌∙◌, bytes_eq, bytes_decides, ◌⊎◌, ◌&&◌, not, inl, inr, arith}
 use Rattle.bt_bed.specs.model.Feature.{Feature}
-use Rattle.bt_seq.specs.model.Masked.{Block, blocks_by, left_by, owned_from, names_behind}
+use Rattle.bt_seq.specs.model.SequenceBlocks.{Block, blocks_by, left_by, owned_from, names_behind}
 use Rattle.bt_seq.specs.calls.MaskState.{KnowsEarlier, KnowsOwn, last_chrom, owner_by, owners_are_found, Matched, is_it, owner_of, goes_on_block, left_at_last, next_goes_on_or_begins, left_after}
 use Rattle.bt_seq.specs.declared.mask.matching.Owner.{Owner}
 use Rattle.bt_seq.specs.declared.mask.matching.Owner.TheVariants.{Own, Earlier, Nobody}

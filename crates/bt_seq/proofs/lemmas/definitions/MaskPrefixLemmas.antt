@@ -8,7 +8,9 @@ use Rattle.bt_lines.specs.model.Lines.{end_bytes}
 use Rattle.bt_seq.proofs.lemmas.definitions.KnowsLemmas.{leave, leave_all}
 use Rattle.bt_seq.proofs.lemmas.Sam.{Tagged, decided_tagged, last_from, next_left, own_in, own_tagged, tag_decides, tags, tags_append, tags_of, AllHaveOne, blocks_have_one, spread, tag_items, tags_all}
 use Rattle.bt_seq.specs.calls.MaskStage.{decided_lines_stay, masked_lines_are_before, masked_lines_stay, first_unowned_is_told, owned_lack_none, held_mask_alone, held_for_line}
-use Rattle.bt_seq.specs.model.Masked.{line_decided, is_unnamed, masked_from, masked_text, block_decides, items_if_last, left_by, own_records, SequenceLine, bases_in, bases_up_to, is_sequence_header, no_sequence, told_at_first, Block, Owned, blocks_by, owned_from}
+use Rattle.bt_seq.specs.model.Masked.{line_decided, is_unnamed, masked_from, masked_text, no_sequence, told_at_first}
+use Rattle.bt_seq.specs.model.Fasta.{SequenceLine, bases_in, bases_up_to, is_sequence_header}
+use Rattle.bt_seq.specs.model.SequenceBlocks.{block_decides, items_if_last, left_by, own_records, Block, Owned, blocks_by, owned_from}
 use Rattle.bt_seq.specs.declared.mask.mask_how.MaskHow.{MaskHow}
 use Rattle.std.specs.Prelude.{find}
 use Rattle.bt_lines.specs.model.Fault.{FaultValue}

@@ -1,8 +1,7 @@
 use Rattle.bt_lines.proofs.Std.{◌≡◌, ◌+◌, ◌≤◌, ◌<◌, ◌∙◌, ap, arith, drop, get_or, length, length-drop, sym, true, get_or-drop, is_ascii_digit, take}
 use Rattle.bt_bed.proofs.lemmas.parse.NameLemmas.{eight_begin, eight_small, one_more}
-use Rattle.bt_bed.proofs.lemmas.read.ColumnLemmas.{digit_bound}
 use Rattle.bt_bed.proofs.parse.columns.number_of_eight.Goals as goal
-use Rattle.bt_lines.proofs.lemmas.numbers.NumberLemmas.{digits_denoting}
+use Rattle.bt_lines.proofs.lemmas.numbers.NumberLemmas.{digit_bound, digits_denoting}
 
 pub returns-then-not-is_ascii_digit-clause-begins : goal.returns-then-not-is_ascii_digit-clause-begins
 returns-then-not-is_ascii_digit-clause-begins c =

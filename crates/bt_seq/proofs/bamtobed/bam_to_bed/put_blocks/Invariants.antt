@@ -1,6 +1,6 @@
 use Rattle.bt_lines.proofs.Std.{◌≡◌, ◌++◌, map, true}
 use Rattle.bt_lines.specs.calls.Output.{Grown}
-use Rattle.bt_seq.specs.model.Alignment.{alignment_blocks}
+use Rattle.bt_seq.specs.model.BedLines.{alignment_blocks}
 use Rattle.bt_seq.specs.calls.Sam.{alignment_lent, blocks_left, span_given}
 use Rattle.bt_seq.proofs.lemmas.BamToBed.{lines_of}
 use Rattle.bt_seq.proofs.bamtobed.bam_to_bed.put_blocks.Given as goal

@@ -7,7 +7,8 @@ use Rattle.bt_seq.proofs.lemmas.mask.steps.CopyLemmas.{left_grows, last_more}
 use Rattle.bt_seq.specs.calls.MaskStage.{MayComeNext}
 use Rattle.bt_seq.specs.calls.MaskState.{Knows, KnowsEarlier, last_chrom, owner_by, Matched, is_it, matched_with, named, owner_of, goes_on_block, left_after}
 use Rattle.bt_seq.specs.inside.Masking.{KnowsAhead, KnowsLast, KnowsNext, KnowsNone}
-use Rattle.bt_seq.specs.model.Masked.{is_unnamed, left_by, names_behind}
+use Rattle.bt_seq.specs.model.Masked.{is_unnamed}
+use Rattle.bt_seq.specs.model.SequenceBlocks.{left_by, names_behind}
 use Rattle.bt_seq.specs.declared.mask.matching.Owner.TheVariants.{Nobody}
 
 pub never : false ≡ true → ⊥

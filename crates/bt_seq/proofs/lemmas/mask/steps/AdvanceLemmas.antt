@@ -19,7 +19,8 @@ use Rattle.bt_seq.specs.inside.Masking.{CopiesThrough, StayEach, passed_all}
 use Rattle.bt_seq.specs.calls.MaskStage.{PassesTextLines, GoesOn, MayComeNext, MaskStage, with_decided, with_line, with_record}
 use Rattle.bt_seq.specs.calls.MaskState.{Masking, TakesSequenceLine, passed, stays_as_given}
 use Rattle.bt_seq.specs.calls.MaskSteps.{BothCome, ComesAfter, GivesAhead, FailsAtRecord, GivesBoth, HasCome, asks_more, left_to_give, MaskMovesTo, MaskStandsAt, ChecksRecord, GivesBed, TakesNextLine, bytes_with}
-use Rattle.bt_seq.specs.model.Masked.{masked_line, SequenceLine}
+use Rattle.bt_seq.specs.model.Masked.{masked_line}
+use Rattle.bt_seq.specs.model.Fasta.{SequenceLine}
 use Rattle.bt_seq.specs.declared.mask.mask_how.MaskHow.{MaskHow}
 use Rattle.bt_seq.specs.declared.mask.MaskWant.{MaskWant}
 use Rattle.bt_seq.specs.declared.mask.MaskWant.TheVariants.{Line, Bed, Nothing}

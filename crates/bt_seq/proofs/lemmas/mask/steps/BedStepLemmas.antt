@@ -18,7 +18,9 @@ use Rattle.bt_seq.specs.calls.MaskStage.{MayComeNext, MaskStage, reached, mask_w
 use Rattle.bt_seq.specs.calls.MaskState.{owner_by, owner_of, Masking, TakesBed, WritesWaiting, decides_line, decides_up_to, holding, holds, holds_by, line_bytes, with_owner, with_held, left_after}
 use Rattle.bt_seq.specs.inside.Masking.{Counts, IsDecided, KnowsLast, KnowsNone, decided_up_to}
 use Rattle.bt_seq.specs.calls.MaskSteps.{MaskMovesTo, IsAtStage, Waits, kept_line, ChecksRecord, EndsRecords, GivesBed, LacksSequence, WritesLine, bytes_with}
-use Rattle.bt_seq.specs.model.Masked.{line_decided, masked_line, block_decides, items_if_last, own_records, SequenceLine, bases_up_to, is_unnamed, Reached, sequence_says}
+use Rattle.bt_seq.specs.model.Masked.{line_decided, masked_line, is_unnamed}
+use Rattle.bt_seq.specs.model.Fasta.{SequenceLine, bases_up_to, Reached, sequence_says}
+use Rattle.bt_seq.specs.model.SequenceBlocks.{block_decides, items_if_last, own_records}
 use Rattle.bt_seq.specs.inside.Window.{Bounds, limit}
 use Rattle.bt_seq.specs.declared.mask.mask_how.MaskHow.{MaskHow}
 use Rattle.bt_seq.specs.declared.mask.MaskWant.TheVariants.{Line, Bed}

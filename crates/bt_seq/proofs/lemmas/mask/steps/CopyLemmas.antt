@@ -10,7 +10,9 @@ use Rattle.bt_seq.specs.inside.Masking.{CopiesLine, CopiesLines, CopiesThrough, 
 use Rattle.bt_bed.specs.calls.Stage.{given}
 use Rattle.bt_seq.specs.calls.MaskStage.{PassesTextLines, MaskStage, mask_want_of}
 use Rattle.bt_seq.specs.calls.MaskState.{Masking, passed, stays_as_given, left_after}
-use Rattle.bt_seq.specs.model.Masked.{is_sequence_header, line_decided, is_unnamed, block_decides, items_if_last, names_behind, own_records, SequenceLine, bases_up_to}
+use Rattle.bt_seq.specs.model.Masked.{line_decided, is_unnamed}
+use Rattle.bt_seq.specs.model.Fasta.{is_sequence_header, SequenceLine, bases_up_to}
+use Rattle.bt_seq.specs.model.SequenceBlocks.{block_decides, items_if_last, names_behind, own_records}
 use Rattle.bt_seq.specs.inside.Window.{Bounds, gone_on, limit}
 use Rattle.bt_seq.specs.declared.mask.copy_through.CopyThrough.{CopyThrough}
 use Rattle.bt_seq.specs.declared.mask.MaskWant.TheVariants.{Line, Nothing, Bed}

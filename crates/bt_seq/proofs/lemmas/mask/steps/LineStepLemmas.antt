@@ -8,7 +8,9 @@ use Rattle.bt_bed.specs.calls.Stage.{given, with_first}
 use Rattle.bt_seq.specs.calls.MaskStage.{MaskStage, held_by, is_written_ahead, is_written_at_once, reached, reached_by, mask_want_of, with_line, held_for_line}
 use Rattle.bt_seq.specs.calls.MaskState.{Masking, line_bytes, TakesSequenceLine, Waiting, bytes_at_once, is_stray, may_grow, moved_to, writes_at_once, Matched, named, left_after}
 use Rattle.bt_seq.specs.calls.MaskSteps.{kept_line, IsOpen, MaskMovesTo, FailsWithLine, GivesNextLine, RefusesLine, TakesNextLine, bytes_with, may_need_memory}
-use Rattle.bt_seq.specs.model.Masked.{masked_from, masked_line, masked_text, block_decides, items_if_last, own_records, SequenceLine, bases_up_to, is_sequence_header, line_decided, is_unnamed, bases_in, header_behind, line_behind, sequence_says, may_stand, name_in}
+use Rattle.bt_seq.specs.model.Masked.{masked_from, masked_line, masked_text, line_decided, is_unnamed}
+use Rattle.bt_seq.specs.model.Fasta.{SequenceLine, bases_up_to, is_sequence_header, bases_in, header_behind, line_behind, sequence_says, may_stand, name_in}
+use Rattle.bt_seq.specs.model.SequenceBlocks.{block_decides, items_if_last, own_records}
 use Rattle.bt_seq.specs.inside.Masking.{AreInRange, Counts, KnowsNext, decided_up_to}
 use Rattle.bt_seq.specs.inside.Window.{limit, Bounds, gone_on, no_bases}
 use Rattle.bt_seq.specs.declared.mask.mask_how.MaskHow.{MaskHow}

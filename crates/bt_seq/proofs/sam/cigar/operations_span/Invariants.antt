@@ -1,5 +1,5 @@
 use Rattle.bt_lines.proofs.Std.{◌≡◌, length, ◌≤◌}
-use Rattle.bt_seq.specs.model.Alignment.{operations_in}
+use Rattle.bt_seq.specs.model.Cigar.{operations_in}
 use Rattle.bt_seq.specs.calls.Alignments.{span_with}
 use Rattle.bt_seq.proofs.sam.cigar.operations_span.Given as goal
 

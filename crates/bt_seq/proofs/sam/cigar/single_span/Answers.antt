@@ -5,4 +5,4 @@ use Rattle.bt_seq.proofs.sam.cigar.single_span.Goals as goal
 pub returns : goal.returns
 returns c =
     let text = c.args.text.now in
-    single_span_is text (length text - 1) c.number_in.result (omega (arith, c.if-size-gt-SHORT.false)) (omega (arith, c.if-size-eq0.false)) c.if-text-size-ne77.false c.number_in.ensures
+    single_span_is text (length text - 1) c.short_number.result (omega (arith, c.if-size-gt-SHORT.false)) (omega (arith, c.if-size-eq0.false)) c.if-text-size-ne77.false c.short_number.ensures

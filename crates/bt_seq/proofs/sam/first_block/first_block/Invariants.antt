@@ -1,5 +1,5 @@
 use Rattle.bt_lines.proofs.Std.{◌≡◌, ◌≤◌, length}
-use Rattle.bt_seq.specs.model.Alignment.{operations_in}
+use Rattle.bt_seq.specs.model.Cigar.{operations_in}
 use Rattle.bt_seq.specs.inside.Sam.{FitBehind}
 use Rattle.bt_seq.proofs.lemmas.Sam.{open_in}
 use Rattle.bt_seq.proofs.sam.first_block.first_block.Given as goal

@@ -26,7 +26,7 @@ use Rattle.bt_bed.specs.declared.order.ChromOrder.{Ghosts}
 use Rattle.bt_bed.specs.declared.read.records.Records.{Records}
 use Rattle.bt_bed.proofs.lemmas.Definitions.{placed_good, non_empty_good, placed_lines}
 use Rattle.bt_tool.specs.calls.Run.{IsFaultButWrite, IsReported, IsWithin, ReadsNoFurther, TellsDevice, TellsInput, TellsNoRead, RunsBy, RunsAlone}
-use Rattle.bt_tool.specs.model.Report.{of_members, of_records}
+use Rattle.bt_tool.specs.model.Behaviour.{of_members, of_records}
 use Rattle.bt_tool.specs.calls.Inputs.{InputRead, MayHold, OfBoth}
 use Rattle.bt_tool.proofs.lemmas.running.members.CursorLemmas.{Came, BeginsAt, at_whole, came_whole, good_whole, handed_to, not_failed, read, reads_so, says_fault, begins_over, tells_read}
 use Rattle.bt_tool.specs.inside.Feed.{BeginsWith, FeedStopCause, WhateverComes, CutsLines, PutsLines, FeedsAll, FeedsUpTo, TookButBlock, IsReadFor, member_items, LineRefused, sam_reader, IsFresh, IsKeptBelow, PassesMembers}
@@ -38,7 +38,8 @@ use Rattle.bt_tool.proofs.lemmas.running.members.SeenLemmas.{PutsFront, puts_fro
 use Rattle.std.specs.Option.{option_map_or}
 use Rattle.bt_lines.specs.declared.fault.Input.{Input}
 use Rattle.bt_lines.specs.declared.reader.line_reader.LineReader.{LineReader}
-use Rattle.bt_seq.specs.model.Alignment.{Alignment, alignment_of, bed_lines, sam_format, is_sam_kind}
+use Rattle.bt_seq.specs.model.Alignment.{Alignment, alignment_of, sam_format, is_sam_kind}
+use Rattle.bt_seq.specs.model.BedLines.{bed_lines}
 use Rattle.bt_seq.specs.calls.Sam.{Converting}
 use Rattle.bt_seq.proofs.lemmas.Sam.{kinds_of_lines, wrong_kinds}
 use Rattle.bt_tool.proofs.lemmas.running.whole.OwnFailureLemmas.{none_tells}

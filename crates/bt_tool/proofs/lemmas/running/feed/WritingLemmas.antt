@@ -7,7 +7,7 @@ use Rattle.bt_lines.specs.calls.Line.{line_feeds}
 use Rattle.bt_lines.specs.calls.Output.{Output, block_size}
 use Rattle.bt_lines.specs.declared.fault.Input.TheVariants.{First, Second}
 use Rattle.bt_bed.specs.model.Genome.{Entry}
-use Rattle.bt_tool.specs.model.Report.{Behaviour, behaviour_of}
+use Rattle.bt_tool.specs.model.Behaviour.{Behaviour, behaviour_of}
 use Rattle.bt_tool.specs.calls.Inputs.{CameOf, HandsUpTo, InputRead, MayHold, OfBoth, ReadsSoIf}
 use Rattle.bt_lines.specs.calls.Device.{begun}
 use Rattle.bt_tool.proofs.lemmas.running.members.CursorLemmas.{IsWhole}

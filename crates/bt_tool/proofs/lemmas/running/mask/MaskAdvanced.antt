@@ -23,9 +23,9 @@ use Rattle.bt_bed.specs.calls.Stage.{Follows, Stage, given}
 use Rattle.bt_seq.specs.calls.MaskStage.{SayEach, GoesOn, MaskStage, reached}
 use Rattle.bt_seq.specs.calls.MaskState.{Masking}
 use Rattle.bt_seq.specs.calls.MaskSteps.{MaskMovesTo}
-use Rattle.bt_seq.specs.model.Masked.{Reached, SequenceLine, sequence_says, sequence_format}
+use Rattle.bt_seq.specs.model.Fasta.{Reached, SequenceLine, sequence_says, sequence_format}
 use Rattle.bt_tool.specs.inside.Feed.{member_items, HasTaken}
-use Rattle.bt_tool.specs.model.Written.{is_fasta_kind}
+use Rattle.bt_tool.specs.model.TwoInputs.{is_fasta_kind}
 use Rattle.bt_tool.specs.declared.loops.masking.MaskRun.{MaskRun}
 use Rattle.bt_tool.specs.inside.MaskLoop.{Masks, leaves_some_line, begun_pair, mask_join, line_members, nothing_reached}
 use Rattle.bt_tool.proofs.lemmas.running.mask.MaskedLemmas.{MaskEnds, asked, asks_for, come_so_far, ends_at, reached_behind, wrong_first}

@@ -27,7 +27,7 @@ use Rattle.bt_bed.specs.calls.Stage.{Stage, given, with_first}
 use Rattle.bt_seq.specs.calls.MaskStage.{GoesOn, MayComeNext, MaskStage, is_written_at_once, mask_want_of, want_at, with_line}
 use Rattle.bt_seq.specs.calls.MaskState.{Masking}
 use Rattle.bt_seq.specs.calls.MaskSteps.{BothCome, ComesAfter, GivesAhead, FailsAfter, FailsAtLines, FailsAtRecord, HasCome, StopsAt, MaskStandsAt, FailsWithLine, RefusesLine, bytes_with}
-use Rattle.bt_seq.specs.model.Masked.{Reached, SequenceLine}
+use Rattle.bt_seq.specs.model.Fasta.{Reached, SequenceLine}
 use Rattle.bt_seq.specs.declared.mask.MaskWant.{MaskWant}
 use Rattle.bt_seq.specs.declared.mask.MaskWant.TheVariants.{Line as WantLine, Bed as WantBed, Nothing}
 use Rattle.bt_tool.specs.declared.loops.masking.MaskRun.{MaskRun}

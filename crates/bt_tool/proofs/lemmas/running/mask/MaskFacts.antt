@@ -4,10 +4,12 @@ use Rattle.bt_lines.specs.model.Lines.{TextLine, bytes_in}
 use Rattle.bt_bed.specs.model.Feature.{Feature}
 use Rattle.bt_bed.specs.model.BedLine.{is_record_kind, record_of}
 use Rattle.bt_bed.specs.model.Good.{Member, line_says, said_after}
-use Rattle.bt_seq.specs.model.Masked.{line_decided, SequenceLine, masked_line}
+use Rattle.bt_seq.specs.model.Masked.{line_decided, masked_line}
+use Rattle.bt_seq.specs.model.Fasta.{SequenceLine}
 use Rattle.bt_seq.specs.declared.mask.mask_how.MaskHow.{MaskHow}
 use Rattle.bt_seq.proofs.lemmas.definitions.MaskPrefixLemmas.{decided_stays}
-use Rattle.bt_tool.specs.model.Written.{bytes_up_to, last_line_needed, last_needed, is_mask_kind}
+use Rattle.bt_tool.specs.model.Reaches.{bytes_up_to, last_line_needed, last_needed}
+use Rattle.bt_tool.specs.model.TwoInputs.{is_mask_kind}
 use Rattle.bt_tool.specs.inside.Feed.{member_items}
 use Rattle.bt_tool.specs.inside.MaskLoop.{leaves_some_line, mask_join}
 use Rattle.bt_tool.proofs.lemmas.running.pair.PairMet.{AreLimits}

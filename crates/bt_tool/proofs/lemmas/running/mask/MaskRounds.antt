@@ -13,7 +13,7 @@ use Rattle.bt_bed.proofs.lemmas.order.TableLemmas.{passed_on}
 use Rattle.bt_seq.specs.calls.MaskStage.{MaskStage, with_lines_ended, mask_want_of, first_stage}
 use Rattle.bt_seq.specs.calls.MaskState.{Masking}
 use Rattle.bt_seq.specs.calls.MaskSteps.{MaskMovesTo, MaskStandsAt, EndsCheck, EndsRecords}
-use Rattle.bt_seq.specs.model.Masked.{SequenceLine, Reached}
+use Rattle.bt_seq.specs.model.Fasta.{SequenceLine, Reached}
 use Rattle.bt_seq.specs.declared.mask.MaskWant.{MaskWant}
 use Rattle.bt_seq.specs.declared.mask.MaskWant.TheVariants.{Nothing, Line as WantLine, Bed as WantBed}
 use Rattle.bt_sweep.specs.declared.sweep.Want.{Want}

@@ -14,7 +14,8 @@ use Rattle.bt_bed.specs.calls.Reading.{MemberReader, room, ahead_in, first_from,
 use Rattle.bt_bed.specs.calls.Stage.{given}
 use Rattle.bt_seq.specs.calls.MaskStage.{MaskStage, reached, reached_by, mask_want_of, with_bed_ended, with_lines_ended}
 use Rattle.bt_seq.specs.calls.MaskState.{Masking, left_after}
-use Rattle.bt_seq.specs.model.Masked.{Reached, SequenceLine, line_decided, masked_line, names_of_sequences, no_sequence, sequence_says, sequence_format}
+use Rattle.bt_seq.specs.model.Masked.{line_decided, masked_line, names_of_sequences, no_sequence}
+use Rattle.bt_seq.specs.model.Fasta.{Reached, SequenceLine, sequence_says, sequence_format}
 use Rattle.bt_seq.specs.declared.mask.MaskWant.{MaskWant}
 use Rattle.bt_tool.specs.declared.loops.masking.MaskRun.{MaskRun}
 use Rattle.bt_tool.specs.inside.Feed.{IsKeptBelow, member_items}
@@ -35,7 +36,7 @@ use Rattle.bt_seq.proofs.lemmas.mask.steps.CopyLemmas.{last_waits, wants_bed, wa
 use Rattle.bt_seq.proofs.lemmas.mask.steps.AdvanceLemmas.{going}
 use Rattle.bt_seq.specs.declared.mask.mask_how.MaskHow.{MaskHow}
 use Rattle.bt_seq.specs.declared.mask.MaskWant.TheVariants.{Line as WantLine, Bed as WantBed, Nothing}
-use Rattle.bt_tool.specs.model.Written.{is_fasta_kind, is_mask_kind}
+use Rattle.bt_tool.specs.model.TwoInputs.{is_fasta_kind, is_mask_kind}
 use Rattle.bt_tool.proofs.lemmas.running.members.MemberLemmas.{IsFilled, IsOver, IsStopped}
 use Rattle.bt_tool.proofs.lemmas.running.members.BlockMembers.{gives_over, gives_unread, passes_made, wrong_is_text}
 use Rattle.bt_tool.proofs.lemmas.running.mask.MaskFacts.{ahead_first, first_of, says_of_blocks}

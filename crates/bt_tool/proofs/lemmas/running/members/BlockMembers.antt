@@ -32,7 +32,7 @@ use Rattle.bt_lines.specs.declared.fault.Kind.TheVariants.{TextBeforeHeader}
 use Rattle.bt_bed.proofs.lemmas.read.good.ReadingLemmas.{numbered_coming, some_bytes, Going, going_end, going_start, going_unread}
 use Rattle.bt_bed.specs.model.Good.{Good, Member, good_after}
 use Rattle.bt_seq.specs.calls.MaskStage.{SayEach}
-use Rattle.bt_seq.specs.model.Masked.{Reached, SequenceLine, sequence_says, sequence_format}
+use Rattle.bt_seq.specs.model.Fasta.{Reached, SequenceLine, sequence_says, sequence_format}
 use Rattle.bt_tool.specs.inside.MaskLoop.{line_members}
 use Rattle.bt_tool.proofs.lemmas.running.feed.WritingLemmas.{lines_on, near_from_start, up_to}
 

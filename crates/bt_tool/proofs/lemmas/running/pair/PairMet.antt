@@ -12,7 +12,7 @@ use Rattle.bt_lines.specs.calls.Reader.{MayStillCome, fault_kept as line_fault, 
 use Rattle.bt_lines.specs.declared.fault.Input.TheVariants.{First, Second}
 use Rattle.bt_bed.specs.calls.Reading.{IsBeyond, MemberReader, coming}
 use Rattle.bt_bed.proofs.lemmas.Definitions.{all_stop, met_fault_stop, met_output, written_past, written_stop}
-use Rattle.bt_tool.specs.model.Report.{Behaviour, or_empty}
+use Rattle.bt_tool.specs.model.Behaviour.{Behaviour, or_empty}
 use Rattle.bt_tool.specs.calls.Inputs.{CameOf, InputRead, MayHold, OfBoth}
 use Rattle.bt_bed.specs.model.BedLine.{fault_at_line}
 use Rattle.bt_tool.specs.calls.Run.{RunsBy, IsFaultButWrite, IsReported, IsWithin, ReadsNoFurther, TellsDevice, TellsInput, TellsNoRead}

@@ -14,7 +14,7 @@ use Rattle.bt_bed.specs.model.Feature.{Feature}
 use Rattle.bt_bed.specs.model.Good.{Format, Good, Member, good, good_after, good_handed, good_with, items_in}
 use Rattle.bt_bed.specs.calls.Reading.{BeginsComing, IsBeyond, IsFaultBeyond, MemberReader, ahead_in, first_from as first_of_members}
 use Rattle.bt_bed.proofs.lemmas.read.good.SaidLemmas.{ascend_from, first_from}
-use Rattle.bt_tool.specs.model.Written.{bytes_up_to, last_line_needed}
+use Rattle.bt_tool.specs.model.Reaches.{bytes_up_to, last_line_needed}
 use Rattle.bt_tool.specs.calls.Run.{IsFaultButWrite, IsWithin, ReadsNoFurther}
 use Rattle.bt_tool.specs.inside.Feed.{TookButBlock, WhateverComes, member_items, ConsumesGiven, HasTaken}
 use Rattle.bt_tool.specs.calls.Inputs.{InputRead, MayHold}

@@ -11,7 +11,7 @@ use Rattle.bt_sweep.specs.calls.Sweeping.{leaves_some, Settles, AreDecided, Take
 use Rattle.bt_sweep.specs.declared.hits.hit_rule.HitRule.{HitRule}
 use Rattle.bt_sweep.specs.declared.output.shape.Shape.{Shape}
 use Rattle.bt_tool.specs.declared.loops.sweeping.SweepConfig.{SweepConfig}
-use Rattle.bt_tool.specs.model.Written.{bytes_up_to, decider, last_line_needed}
+use Rattle.bt_tool.specs.model.Reaches.{bytes_up_to, decider, last_line_needed}
 use Rattle.bt_tool.specs.inside.Feed.{member_items}
 use Rattle.bt_tool.specs.inside.SweepLoop.{sweep_join, AreWithin}
 use Rattle.bt_tool.proofs.lemmas.running.pair.PairNear.{AreNeeded, fault_least, least_by, not_all}

@@ -19,7 +19,8 @@ use Rattle.bt_bed.specs.model.Genome.{Entry, genome_of}
 use Rattle.bt_lines.specs.model.Lines.{Handed, text_lines, whole_text}
 use Rattle.bt_lines.specs.calls.Line.{line_feeds}
 use Rattle.bt_bed.specs.calls.GenomeTable.{entries, EntryIsWrong, EntryUnread, ReadsAll, ReadingStops, StopCause, is_genome_kind}
-use Rattle.bt_tool.specs.model.Report.{behaviour_of, chromosomes_of, of_file}
+use Rattle.bt_tool.specs.model.Report.{chromosomes_of, of_file}
+use Rattle.bt_tool.specs.model.Behaviour.{behaviour_of}
 use Rattle.bt_tool.specs.calls.Inputs.{CameOf, InputRead, MayHold, OfBoth, ReadsAs, ReadsSo}
 use Rattle.bt_tool.specs.calls.Run.{IsOfInput, TellsInputIf, RunsBy, AnswersNoRead, TellsNoRead, KnowsChromosomes, LacksChromosomes}
 use Rattle.bt_tool.specs.inside.Feed.{Flushes, IsKeptBelow}

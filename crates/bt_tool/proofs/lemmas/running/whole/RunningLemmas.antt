@@ -24,7 +24,8 @@ use Rattle.bt_bed.specs.model.Meeting.{Report}
 use Rattle.bt_tool.specs.model.Written.{IsOneOf}
 use Rattle.bt_tool.specs.calls.Run.{InputsRead, KnowsChromosomes, LacksChromosomes, ReadsChromosomes, IsFaultButWrite, IsOfInput, IsPutTo, ReadsNoFurther, TellsDevice, TellsInput, TellsInputIf, TellsNoRead, RunsBy, Runs, TellsOther, ShowsReport}
 use Rattle.bt_tool.specs.inside.Feed.{Flushes, FlushesAll, FlushFails, StaysFailed}
-use Rattle.bt_tool.specs.model.Report.{Inputs, behaviour_of, behaviour_on, chromosomes_of, report_of, report_on, answer_of, report, texts_of}
+use Rattle.bt_tool.specs.model.Report.{Inputs, behaviour_on, chromosomes_of, report_of, report_on, answer_of, report, texts_of}
+use Rattle.bt_tool.specs.model.Behaviour.{behaviour_of}
 use Rattle.bt_tool.specs.calls.Inputs.{InputRead}
 use Rattle.bt_lines.specs.calls.Device.{ReadsOn, begun as begun_reads}
 use Rattle.bt_tool.specs.calls.CommandLine.{ReportsAnswer}

@@ -3,7 +3,8 @@ use Rattle.bt_lines.specs.calls.Reader.{source_of}
 use Rattle.bt_lines.specs.declared.fault.Input.TheVariants.{Second}
 use Rattle.bt_bed.specs.calls.Blocks.{view_of}
 use Rattle.bt_bed.proofs.lemmas.Definitions.{good_in_blocks}
-use Rattle.bt_tool.specs.model.Written.{mask_reaches, mask_settles}
+use Rattle.bt_tool.specs.model.Reaches.{mask_reaches}
+use Rattle.bt_tool.specs.model.TwoInputs.{mask_settles}
 use Rattle.bt_tool.specs.inside.MaskLoop.{line_members, nothing_reached}
 use Rattle.bt_tool.proofs.lemmas.running.mask.MaskFacts.{mask_limits, mask_needs}
 use Rattle.bt_tool.proofs.lemmas.running.mask.MaskRounds.{as_asked, masks_start}

@@ -4,7 +4,8 @@ use Rattle.bt_lines.specs.declared.fault.Input.TheVariants.{Second}
 use Rattle.bt_bed.specs.calls.Records.{view_of}
 use Rattle.bt_bed.proofs.lemmas.Definitions.{placed_good}
 use Rattle.bt_sweep.specs.calls.SweepView.{state_of}
-use Rattle.bt_tool.specs.model.Written.{intersect_reaches, intersect_settles}
+use Rattle.bt_tool.specs.model.Reaches.{intersect_reaches}
+use Rattle.bt_tool.specs.model.TwoInputs.{intersect_settles}
 use Rattle.bt_tool.specs.inside.SweepLoop.{config_of}
 use Rattle.bt_tool.proofs.lemmas.running.pair.PairMet.{writes_both}
 use Rattle.bt_tool.proofs.lemmas.running.pair.PairNear.{near_both}

@@ -2,7 +2,7 @@ use Rattle.bt_lines.proofs.Std.{◌∷◌, ◌∙◌, List, and_parts, ap, leb-t
 use Rattle.bt_lines.specs.calls.Reader.{PassesLine, shown_text_line}
 use Rattle.bt_lines.specs.calls.Line.{Shown, line_shown}
 use Rattle.bt_lines.specs.model.Lines.{TextLine}
-use Rattle.bt_seq.specs.model.Masked.{is_sequence_header}
+use Rattle.bt_seq.specs.model.Fasta.{is_sequence_header}
 use Rattle.bt_seq.proofs.lemmas.mask.steps.CopyLemmas.{copied_line}
 use Rattle.bt_seq.proofs.mask.copy_through.CopyThrough.consume_next.Goals as goal
 

@@ -1,5 +1,6 @@
 use Rattle.bt_lines.proofs.Std.{◌≡◌, None, length}
-use Rattle.bt_seq.specs.model.Alignment.{blocks_in, operations_in}
+use Rattle.bt_seq.specs.model.BedLines.{blocks_in}
+use Rattle.bt_seq.specs.model.Cigar.{operations_in}
 use Rattle.bt_seq.proofs.sam.block_iter.SamBlocksIterator.next.Given as goal
 
 -- what is left are the blocks of the rest

@@ -1,8 +1,7 @@
 use Rattle.bt_lines.proofs.Std.{inl, inr, ◌∙◌, ◌≡◌, ◌+◌, ◌-◌, ◌*◌, ◌^◌, ◌<◌, arith, get_or, length, length-take, List, None, sym, take, true, ℕ, cases_Bool, take_all, list_all_more, is_ascii_digit, list_all, digits_value}
-use Rattle.bt_bed.proofs.lemmas.read.ColumnLemmas.{digit_bound}
-use Rattle.bt_lines.proofs.lemmas.numbers.NumberLemmas.{digit_small, digits_below, digits_denoting, digits_more, refused_second, value_below, value_more, value_of_digits, value_of_other, value_of_whole, value_short}
+use Rattle.bt_lines.proofs.lemmas.numbers.NumberLemmas.{digit_bound, digit_small, digits_below, digits_denoting, digits_more, refused_second, value_below, value_more, value_of_digits, value_of_other, value_of_whole, value_short}
 use Rattle.bt_lines.specs.model.Lines.{value_of}
-use Rattle.bt_seq.proofs.sam.sam_text.nine_digits.Goals as goal
+use Rattle.bt_lines.proofs.numbers.short_number.nine_digits.Goals as goal
 
 -- eight digits denote less than this
 front_below : (text : List ℕ) → length text ≡ 9 → list_all is_ascii_digit (take 8 text) ≡ true → digits_value 10 (take 8 text) < 10 ^ 8
