@@ -148,7 +148,7 @@ module _ {G : Type 0} {device : Source G} {genome after : G} {old : LineReader G
       distinct = reads.distinct;
       served = sym (ap device.has_failed ended) ∙ reads.served ∙ ap device.has_failed source;
       no_failed = not_failed hands (none_tells (line_fault new) reads.going);
-      ended = sym (ap device.end_told ended) ∙ (next.end reads.told).0;
+      ended = reads.told;
     }
 
     pub knows_all : (read : Option InputRead) × KnowsChromosomes device (Some genome) read (Some after) (Some table)
