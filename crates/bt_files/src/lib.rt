@@ -34,6 +34,7 @@ mod example;
 mod files;
 mod identity;
 mod message;
+mod moved_bytes;
 mod opened;
 mod output;
 mod stand_ins;

@@ -2,8 +2,9 @@
 
 ghost use Rattle.std.specs.Prelude.{◌≡◌, None, IfOk};
 ghost use Rattle.bt_lines.specs.calls.Device.{TellsFailure};
-ghost use Rattle.bt_files.specs.calls.Opened.{input_meant, file_named, opened_has_failed, opened_end_told, IsUnused};
+ghost use Rattle.bt_files.specs.calls.Opened.{HandsOver, IsUnused, file_named, input_meant, opened_end_told, opened_handed, opened_has_failed};
 
+use crate::moved_bytes::{MovedBytes, Piece};
 use bt_lines::{DeviceFailed, FromRead, Source};
 use bt_tool::is_standard_input;
 use std::fs::File;
@@ -12,7 +13,14 @@ use std::io::Stdin;
 
 /// An opened input. `run` reads it in blocks.
 #[derive(Drop)]
-pub enum Opened {
+pub struct Opened {
+    pub(crate) device: Device,
+    // What the device handed over since it was opened.
+    pub(crate) handed: MovedBytes,
+}
+
+#[derive(Drop)]
+pub(crate) enum Device {
     File(FromRead<File>),
     Standard(FromRead<Stdin>),
 }
@@ -22,10 +30,14 @@ impl Opened {
     pub fn open(rt: &HostRuntime, name: &str) -> io::Result<Opened>
         ensures { IfOk result (IsUnused name.now) }
     {
-        match input_named(name) {
-            Input::Standard => Ok(Opened::Standard(FromRead::new(rt.stdin()))),
-            Input::File(name) => Ok(Opened::File(FromRead::new(File::open(rt, name)?))),
-        }
+        let device = match input_named(name) {
+            Input::Standard => Device::Standard(FromRead::new(rt.stdin())),
+            Input::File(name) => Device::File(FromRead::new(File::open(rt, name)?)),
+        };
+        Ok(Opened {
+            device,
+            handed: MovedBytes::new(),
+        })
     }
 }
 
@@ -54,19 +66,24 @@ impl Source for Opened {
 
     ghost end_told = { opened_end_told };
 
-    ghost is_read = { λ before call after. TellsFailure call (opened_has_failed before) (opened_has_failed after) };
+    ghost is_read = { λ before call after. TellsFailure call (opened_has_failed before) (opened_has_failed after)
+        × HandsOver (opened_handed before) call (opened_handed after) };
 
     fn read(&mut self, block: &mut [u8]) -> Result<usize, DeviceFailed> {
-        match self {
-            Opened::File(source) => source.read(block),
-            Opened::Standard(source) => source.read(block),
-        }
+        let count = match &mut self.device {
+            Device::File(source) => source.read(block)?,
+            Device::Standard(source) => source.read(block)?,
+        };
+        self.handed = self.handed.with(&Piece {
+            bytes: &block[..count],
+        });
+        Ok(count)
     }
 
     fn failed(&self) -> bool {
-        match self {
-            Opened::File(source) => source.failed(),
-            Opened::Standard(source) => source.failed(),
+        match &self.device {
+            Device::File(source) => source.failed(),
+            Device::Standard(source) => source.failed(),
         }
     }
 }

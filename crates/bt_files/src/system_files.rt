@@ -1,7 +1,7 @@
 //! The files that the system has.
 
-ghost use Rattle.std.specs.Prelude.{◌≡◌, ⊤, is_some};
-ghost use Rattle.bt_files.specs.calls.Opened.{IsUnused, output_is_file};
+ghost use Rattle.std.specs.Prelude.{⊤};
+ghost use Rattle.bt_files.specs.calls.Opened.{IsUnused, IsUnwritten};
 
 use crate::files::{Files, Unopened};
 use crate::identity::is_input;
@@ -23,7 +23,7 @@ impl Files for SystemFiles<'_> {
 
     ghost opens = { λ before name input after. IsUnused name input };
 
-    ghost creates = { λ before name output after. output_is_file output ≡ is_some name };
+    ghost creates = { λ before name output after. IsUnwritten name output };
 
     ghost refuses = { λ before name after. ⊤ };
 

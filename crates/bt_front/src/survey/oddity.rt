@@ -3,24 +3,24 @@
 /// What bedtools may read otherwise in a line. Lines of some commands and numbers of columns it reads as Dunekettle does.
 #[derive(Clone, Copy, Debug, PartialEq, Eq)]
 pub enum Oddity {
-    /// The line is blank: bedtools ends there, doesn't merge across it, or refuses it.
+    /// The line is blank. Depending on the command, bedtools stops reading there, doesn't merge across it, or refuses it.
     Blank,
-    /// It has two carriage returns one after the other, of which bedtools leaves out both at the end of a line.
+    /// The line has two carriage returns in a row. At the end of a line bedtools removes both, and Dunekettle one.
     DoubleReturn,
-    /// It has a NUL, after which bedtools leaves out the rest of the column.
+    /// The line has a NUL byte. bedtools drops the rest of that column.
     Nul,
-    /// It has more than 1,015 bytes. bedtools cuts lines of some numbers of columns after 1,023 bytes as it writes them, when a
-    /// start may have eight digits more.
+    /// The line has more than 1,015 bytes. bedtools cuts some lines that it writes after 1,023 bytes, and a start may be written
+    /// with eight digits more than were read.
     Long,
-    /// It begins as the first line of VCF, so that bedtools reads the text as VCF.
+    /// The line begins as the first line of a VCF file does, so bedtools reads the text as VCF.
     Vcf,
     /// The text begins with a byte order mark, which bedtools refuses.
     ByteOrderMark,
-    /// The text begins with the byte 1f, by which bedtools takes it for a gzip file.
+    /// The text begins with the byte 1f, so bedtools takes it for a gzip file.
     Gzip,
-    /// Its chromosome's name is one that bedtools may pass over, as a header line's first word.
+    /// The name of its chromosome is a word with which header lines begin, so bedtools may skip the record.
     HeaderName,
-    /// Its end is above 536,870,912, past the last bin of bedtools.
+    /// Its end is above 536,870,912, which is past the last bin of bedtools' index.
     FarEnd,
 }
 

@@ -3,31 +3,31 @@
 /// What in the files makes a command line bedtools' own.
 #[derive(Clone, Copy, Debug, PartialEq, Eq)]
 pub enum Reason {
-    /// `bamtobed` and `maskfasta`: their texts have no survey.
+    /// The command is `bamtobed` or `maskfasta`, whose inputs aren't all BED.
     NoSurvey,
-    /// Strands count, and a record has none: bedtools leaves such records out, or stops.
+    /// The call uses strands, and a record has none. bedtools leaves such records out, or stops.
     NoStrand,
-    /// Names of two inputs that begin with `chr`, with `chr0` and otherwise: bedtools warns.
+    /// The chromosomes of the two inputs are named differently, with and without `chr` or `chr0`. bedtools warns then.
     MixedNames,
-    /// `-f` and records too long for the seven digits by which bedtools compares.
+    /// `-f` is given, and a record is too long for the seven digits with which bedtools compares.
     LongForFraction,
-    /// `complement` and `genomecov` without a genome file, which both require.
+    /// `complement` or `genomecov` has no genome file, which both require.
     NoGenome,
-    /// An input isn't in the order of the genome file, or has a chromosome that isn't in it.
+    /// An input isn't in the order of the genome file, or has a chromosome that isn't in that file.
     NotByGenome,
-    /// `complement` and `genomecov`: a record ends past its chromosome's length.
+    /// `complement` or `genomecov`: a record goes past the end of its chromosome.
     PastLength,
-    /// `genomecov`: the genome file has a chromosome of over 2,147,483,647 bases.
+    /// `genomecov`: a chromosome in the genome file has more than 2,147,483,647 bases.
     LongChromosome,
-    /// `complement`: a name of over 900 bytes in the genome file, with which bedtools may cut a line that it writes.
+    /// `complement`: a name in the genome file has more than 900 bytes. bedtools may then cut a line that it writes.
     LongName,
-    /// `genomecov -bga`: a chromosome without records isn't among the last, where bedtools has such.
+    /// `genomecov -bga`: a chromosome without records isn't among the last of the genome file. bedtools writes those last.
     EmptyNotLast,
-    /// `genomecov`: a million records may lie on one another, and bedtools rounds such a depth.
+    /// `genomecov`: there are a million records or more, and bedtools rounds a depth of a million.
     ManyRecords,
-    /// `-sorted` without a genome file, and an input isn't in the order of the names' bytes.
+    /// `-sorted` is given without a genome file, and an input isn't in the order of the names' bytes.
     NotByBytes,
-    /// The chromosomes of two inputs have no order that fits both.
+    /// No order of chromosomes fits both inputs.
     NoCommonOrder,
 }
 

@@ -1,0 +1,38 @@
+//! The bytes that a device handed over or took, in proofs alone: at run time this has no bytes, and its functions do nothing.
+
+ghost use Rattle.std.specs.Prelude.{◌≡◌, List, ℕ, [], ◌++◌};
+ghost use Rattle.std.specs.Borrow.{ftrue};
+
+use std::marker::Model;
+
+#[derive(Drop, Debug)]
+pub(crate) struct MovedBytes {
+    ghost bytes: { List ℕ },
+}
+
+impl Model for MovedBytes {
+    ghost also_owns = { λ _. ftrue };
+}
+
+/// What one call moved.
+#[derive(Clone, Copy, Drop)]
+pub(crate) struct Piece<'a> {
+    pub(crate) bytes: &'a [u8],
+}
+
+impl MovedBytes {
+    /// None.
+    pub(crate) fn new() -> MovedBytes
+        ensures { result.bytes ≡ [] }
+    {
+        MovedBytes {}
+    }
+
+    /// Those before, and a piece more.
+    #[inline(always)]
+    pub(crate) fn with(&self, piece: &Piece<'_>) -> MovedBytes
+        ensures { result.bytes ≡ self.now.bytes ++ piece.now.bytes.now }
+    {
+        MovedBytes {}
+    }
+}
