@@ -1,5 +1,5 @@
 -- The blocks of an alignment, and the BED lines that are written of it.
-use Rattle.std.specs.Prelude.{ℕ, ◌+◌, ◌==◌, Bool, List, [], ◌∷◌, codes, Option, Some, None, if◌then◌else◌, ◌-◌, true, nat_lt, not, ◌++◌, flat_map, decimal}
+use Rattle.std.specs.Prelude.{ℕ, ◌+◌, ◌==◌, Bool, List, [], ◌∷◌, codes, Option, Some, None, if◌then◌else◌, true, nat_lt, not, ◌++◌, flat_map, decimal}
 use Rattle.bt_seq.specs.declared.sam.cigar.Operation.{Operation}
 use Rattle.std.specs.List.{take_while, join_with_byte}
 use Rattle.bt_bed.specs.model.Feature.{Span}

@@ -1,5 +1,5 @@
 -- CIGAR strings.
-use Rattle.std.specs.Prelude.{ℕ, ◌==◌, ◌||◌, Bool, List, [], ◌∷◌, codes, bytes_eq, sum_by, Option, Some, None, option_and_then, option_map, if◌then◌else◌, length}
+use Rattle.std.specs.Prelude.{ℕ, ◌==◌, ◌||◌, Bool, List, [], ◌∷◌, codes, bytes_eq, sum_by, Option, Some, None, option_and_then, option_map, if◌then◌else◌}
 use Rattle.bt_lines.specs.model.Lines.{value_of}
 use Rattle.bt_seq.specs.declared.sam.cigar.Operation.{Operation}
 

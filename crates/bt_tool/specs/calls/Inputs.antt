@@ -1,5 +1,6 @@
 -- What a run read of its inputs, and what their texts may be.
-use Rattle.std.specs.Prelude.{◌≡◌, ℕ, ◌-◌, ◌^◌, ◌≤◌, Bool, true, false, ⊤, List, [], ◌++◌, length, nat_le, take, Option, Some, None}
+use Rattle.std.specs.Prelude.{◌≡◌, ℕ, ◌-◌, ◌^◌, ◌≤◌, Bool, true, false, ⊤, List, [], ◌++◌, length, nat_le, take, Option, Some, None, IfSome}
+use Rattle.bt_lines.specs.declared.device.Source.{Ghosts as Source}
 use Rattle.bt_lines.specs.calls.Device.{EndsAfter, FailsAfter, ReadsOn}
 use Rattle.bt_lines.specs.model.Lines.{Handed, whole_text}
 
@@ -28,16 +29,21 @@ ReadsAs true false IsRead before bytes after = EndsAfter IsRead before bytes aft
 ReadsAs false true IsRead before bytes after = FailsAfter IsRead before bytes after
 ReadsAs true true IsRead before bytes after = ⊥
 
+-- these may be the bytes that weren't handed over: none once the end was reported
+abbrev pub MayFollow : InputRead → List ℕ → Type 0
+MayFollow read rest = read.told ≡ true → rest ≡ []
+
 -- the reads that took a source from the one to the other went so
-abbrev pub ReadsSo : {S : Type 0} → (S → Option (List ℕ) → S → Type 0) → S → InputRead → S → Type 0
-ReadsSo IsRead before read after = ReadsAs read.told read.failed IsRead before read.bytes after
+pub record ReadsSo {S : Type 0} (device : Source S) (before : S) (read : InputRead) (after : S) : Type 0 where
+  pub went : ReadsAs read.told read.failed device.is_read before read.bytes after
+  -- if the text that was left is known, it is what was handed over, and a rest that may follow it
+  pub known : IfSome (device.left before) (λ text. (rest : List ℕ) × (text ≡ read.bytes ++ rest) × MayFollow read rest)
 
 -- of an input that may not be there: if it is, its reads went so
-abbrev pub ReadsSoIf : {S : Type 0} → (S → Option (List ℕ) → S → Type 0) → Option S → Option InputRead → Option S
-    → Type 0
-ReadsSoIf IsRead None None None = ⊤
-ReadsSoIf IsRead (Some before) (Some read) (Some after) = ReadsSo IsRead before read after
-ReadsSoIf IsRead _ _ _ = ⊥
+abbrev pub ReadsSoIf : {S : Type 0} → Source S → Option S → Option InputRead → Option S → Type 0
+ReadsSoIf device None None None = ⊤
+ReadsSoIf device (Some before) (Some read) (Some after) = ReadsSo device before read after
+ReadsSoIf device _ _ _ = ⊥
 
 -- at most this many bytes were handed over, if the input is there
 abbrev pub HandsUpTo : ℕ → Option InputRead → Type 0
@@ -46,10 +52,6 @@ HandsUpTo most (Some read) = length read.bytes ≤ most
 
 -- What its text may be: the bytes that were handed over, and any others after them, but none once the end was
 -- reported.
-
--- these may be the bytes that weren't handed over
-abbrev pub MayFollow : InputRead → List ℕ → Type 0
-MayFollow read rest = read.told ≡ true → rest ≡ []
 
 -- this may be the whole text, what was never handed over included
 pub record MayHold (read : InputRead) (handed : Handed) : Type 0 where

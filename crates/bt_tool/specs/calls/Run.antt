@@ -119,7 +119,7 @@ module _ {G : Type 0} (device : Source G) where
   -- the chromosomes were read, of the bytes that were handed over
   pub record KnowsChromosomes (before : Option G) (read : Option InputRead) (after : Option G)
       (table : Option GenomeTable) : Type 0 where
-    pub reads : ReadsSoIf device.is_read before read after
+    pub reads : ReadsSoIf device before read after
     pub whole : (handed : Option Handed) → OfBoth CameOf read handed
         → chromosomes_of handed ≡ Ok (option_map entries table)
     pub told : (handed : Option Handed) → OfBoth MayHold read handed
@@ -130,12 +130,12 @@ module _ {G : Type 0} (device : Source G) where
     pub served : ServesIf device.has_failed before after
     pub no_failed : NoneFailed read
     -- the file's end was reported
-    pub ended : OfBoth (λ before after. device.end_told after ≡ true) before after
+    pub ended : OfBoth (λ read after. (read.told ≡ true) × (device.end_told after ≡ true)) read after
 
   -- the genome file is at fault, or couldn't be read
   pub record LacksChromosomes (before : Option G) (read : Option InputRead) (after : Option G)
       (fault : FaultValue) : Type 0 where
-    pub reads : ReadsSoIf device.is_read before read after
+    pub reads : ReadsSoIf device before read after
     pub whole : (handed : Option Handed) → OfBoth CameOf read handed → fault ≢ no_memory
         → chromosomes_of handed ≡ Err fault
     pub told : (handed : Option Handed) → OfBoth MayHold read handed → IsOfInput (Some fault)
@@ -158,9 +158,9 @@ module _ {A B : Type 0} (source_a : Source A) (source_b : Source B) (behaviour :
   pub record RunsBy (first : A) (second : Option B) (out : Output) (fault : Option FaultValue)
       (first_after : A) (second_after : Option B) (grown : Output) : Type 0 where
     pub one : InputRead
-    pub one_reads : ReadsSo source_a.is_read first one first_after
+    pub one_reads : ReadsSo source_a first one first_after
     pub two : Option InputRead
-    pub two_reads : ReadsSoIf source_b.is_read second two second_after
+    pub two_reads : ReadsSoIf source_b second two second_after
     -- no write and no growth failed: the report on what was handed over, also if a read failed
     pub whole : (handed : Handed) (others : Option Handed) (before : List ℕ) → CameOf one handed
         → OfBoth CameOf two others → out.put ≡ Some before
@@ -232,9 +232,9 @@ module _ {G A B K : Type 0} (source_g : Source G) (source_a : Source A) (source_
   -- the reads of the inputs went so
   pub record ReadsInputs (genome : Option G) (first : A) (second : Option B) (read : InputsRead)
       (genome_after : Option G) (first_after : A) (second_after : Option B) : Type 0 where
-    pub genome_file : ReadsSoIf source_g.is_read genome read.genome genome_after
-    pub first_input : ReadsSo source_a.is_read first read.first first_after
-    pub second_input : ReadsSoIf source_b.is_read second read.second second_after
+    pub genome_file : ReadsSoIf source_g genome read.genome genome_after
+    pub first_input : ReadsSo source_a first read.first first_after
+    pub second_input : ReadsSoIf source_b second read.second second_after
 
   -- A fault of an input other than the genome file, of a kind that a line of it can have. With a
   -- genome file that is by the list of its chromosomes, and without one

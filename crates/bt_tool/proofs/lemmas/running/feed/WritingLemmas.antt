@@ -1,5 +1,5 @@
 -- What a command of one input writes, as what any command writes of its inputs.
-use Rattle.bt_lines.proofs.Std.{[], ◌≡◌, ℕ, ◌+◌, ◌-◌, ◌≤◌, refl, true, List, ◌++◌, length, Option, None, Some, take, sym, ap, ◌∙◌, subst, arith, inl, inr, ◌⊎◌, IfSome, suc, ◌^◌, ◌<◌, false, drop, All, take-append-add, append_assoc, drop-drop}
+use Rattle.bt_lines.proofs.Std.{[], ◌≡◌, ℕ, ◌+◌, ◌-◌, ◌≤◌, refl, true, List, ◌++◌, length, Option, None, Some, take, sym, ap, ◌∙◌, subst, arith, inl, inr, ◌⊎◌, IfSome, suc, ◌^◌, ◌<◌, false, drop, All, take-append-add, append_assoc, drop-drop, false≢true}
 use Rattle.bt_lines.specs.declared.device.Source.{Ghosts as Source}
 use Rattle.bt_lines.specs.model.Fault.{FaultValue}
 use Rattle.bt_lines.specs.model.Lines.{Handed, TextLine, text_lines, bytes_in}
@@ -8,7 +8,7 @@ use Rattle.bt_lines.specs.calls.Output.{Output, block_size}
 use Rattle.bt_lines.specs.declared.fault.Input.TheVariants.{First, Second}
 use Rattle.bt_bed.specs.model.Genome.{Entry}
 use Rattle.bt_tool.specs.model.Behaviour.{Behaviour, behaviour_of}
-use Rattle.bt_tool.specs.calls.Inputs.{CameOf, HandsUpTo, InputRead, MayHold, OfBoth, ReadsSoIf}
+use Rattle.bt_tool.specs.calls.Inputs.{CameOf, HandsUpTo, InputRead, MayHold, OfBoth, ReadsSo, ReadsSoIf}
 use Rattle.bt_lines.specs.calls.Device.{begun}
 use Rattle.bt_tool.proofs.lemmas.running.members.CursorLemmas.{IsWhole}
 use Rattle.bt_bed.specs.model.Meeting.{Report}
@@ -50,14 +50,22 @@ pub none_read : {S : Type 0} → Option S → Option InputRead
 none_read None = None
 none_read (Some source) = Some (record { bytes = []; told = false; failed = false })
 
-pub reads_none : {S : Type 0} (IsRead : S → Option (List ℕ) → S → Type 0) (source : Option S) → ReadsSoIf IsRead source (none_read source) source
-unfolding none_read
-reads_none IsRead None = tt
-reads_none IsRead (Some source) = begun
+-- a source that wasn't read
+pub reads_nothing : {S : Type 0} (device : Source S) (source : S) → ReadsSo device source (record { bytes = []; told = false; failed = false }) source
+reads_nothing device source = record { went = begun; known = all_left (device.left source) }
+  where
+    all_left : (left : Option (List ℕ)) → IfSome left (λ text. (rest : List ℕ) × (text ≡ [] ++ rest) × (false ≡ true → rest ≡ []))
+    all_left None = tt
+    all_left (Some text) = (text, refl, λ e. absurd (false≢true e))
 
-none_two : {S : Type 0} (IsRead : S → Option (List ℕ) → S → Type 0) (two : Option InputRead) → ReadsSoIf IsRead None two None → two ≡ None
-none_two IsRead None reads = refl
-none_two IsRead (Some read) reads = absurd reads
+pub reads_none : {S : Type 0} (device : Source S) (source : Option S) → ReadsSoIf device source (none_read source) source
+unfolding none_read
+reads_none device None = tt
+reads_none device (Some source) = reads_nothing device source
+
+none_two : {S : Type 0} (device : Source S) (two : Option InputRead) → ReadsSoIf device None two None → two ≡ None
+none_two device None reads = refl
+none_two device (Some read) reads = absurd reads
 
 pub none_failed : {S : Type 0} (source : Option S) → NoneFailed (none_read source)
 unfolding none_read
@@ -76,7 +84,7 @@ module _ {A B : Type 0} (source_a : Source A) (source_b : Source B) where
       {first : A} (second : Option B) {out : Output} {fault : Option FaultValue} {first_after : A} {grown : Output}
       (same_kinds : (t : FaultValue) (read : InputRead) → TellsInput source_a mine.FirstKinds First read first_after t → TellsInput source_a yours.FirstKinds First read first_after t) (w : RunsBy source_a source_a mine first None out fault first_after None grown) where
     alone : w.two ≡ None
-    alone = none_two source_a.is_read w.two w.two_reads
+    alone = none_two source_a w.two w.two_reads
 
     none_with : (P : Option InputRead → Option Handed → Type 0) → P None None → P w.two None
     none_with P so = subst (λ two. P two None) (sym alone) so
@@ -86,7 +94,7 @@ module _ {A B : Type 0} (source_a : Source A) (source_b : Source B) where
       one = w.one;
       one_reads = w.one_reads;
       two = none_read second;
-      two_reads = reads_none source_b.is_read second;
+      two_reads = reads_none source_b second;
       whole = λ one two before reads others put write memory. subst (λ r. IsReported r before fault grown) (same one two) (w.whole one None before reads (none_with (OfBoth CameOf) tt) put write memory);
       told = λ one two before holds others put is. subst (λ r. IsReported r before fault grown) (same one two) (w.told one None before holds (none_with (OfBoth MayHold) tt) put is);
       cut = λ is one two before holds others put.

@@ -21,7 +21,7 @@ use Rattle.bt_lines.specs.calls.Line.{line_feeds}
 use Rattle.bt_bed.specs.calls.GenomeTable.{entries, EntryIsWrong, EntryUnread, ReadsAll, ReadingStops, StopCause, is_genome_kind}
 use Rattle.bt_tool.specs.model.Report.{chromosomes_of, of_file}
 use Rattle.bt_tool.specs.model.Behaviour.{behaviour_of}
-use Rattle.bt_tool.specs.calls.Inputs.{CameOf, InputRead, MayHold, OfBoth, ReadsAs, ReadsSo}
+use Rattle.bt_tool.specs.calls.Inputs.{CameOf, InputRead, MayHold, OfBoth, ReadsSo}
 use Rattle.bt_tool.specs.calls.Run.{IsOfInput, TellsInputIf, RunsBy, AnswersNoRead, TellsNoRead, KnowsChromosomes, LacksChromosomes}
 use Rattle.bt_tool.specs.inside.Feed.{Flushes, IsKeptBelow}
 use Rattle.bt_tool.specs.model.Written.{IsOneOf}
@@ -102,10 +102,10 @@ module _ {G : Type 0} {device : Source G} {genome after : G} {old : LineReader G
     abbrev pub read : InputRead
     read = record { bytes = bytes; told = end_told new; failed = of_genome.failed }
 
-    reads_so : ReadsSo device.is_read genome read after
+    reads_so : ReadsSo device genome read after
     reads_so =
-        subst (λ (s : G). ReadsAs (end_told new) of_genome.failed device.is_read s bytes after) source
-        (subst (λ (s : G). ReadsAs (end_told new) of_genome.failed device.is_read (source_of old) bytes s) ended of_genome.reads)
+        subst (λ (s : G). ReadsSo device s read after) source
+        (subst (λ (s : G). ReadsSo device (source_of old) read s) ended (record { went = of_genome.reads; known = of_genome.known }))
 
     -- if no failed read is kept, none failed
     not_failed : TellsNoRead (fault_kept new) → of_genome.failed ≡ false
@@ -148,7 +148,7 @@ module _ {G : Type 0} {device : Source G} {genome after : G} {old : LineReader G
       distinct = reads.distinct;
       served = sym (ap device.has_failed ended) ∙ reads.served ∙ ap device.has_failed source;
       no_failed = not_failed hands (none_tells (line_fault new) reads.going);
-      ended = sym (ap device.end_told ended) ∙ (next.end reads.told).0;
+      ended = (reads.told, sym (ap device.end_told ended) ∙ (next.end reads.told).0);
     }
 
     pub knows_all : (read : Option InputRead) × KnowsChromosomes device (Some genome) read (Some after) (Some table)

@@ -27,11 +27,10 @@ use Rattle.bt_tool.specs.inside.Feed.{Flushes, FlushesAll, FlushFails, StaysFail
 use Rattle.bt_tool.specs.model.Report.{Inputs, behaviour_on, chromosomes_of, report_of, report_on, answer_of, report, texts_of}
 use Rattle.bt_tool.specs.model.Behaviour.{behaviour_of}
 use Rattle.bt_tool.specs.calls.Inputs.{InputRead}
-use Rattle.bt_lines.specs.calls.Device.{ReadsOn, begun as begun_reads}
 use Rattle.bt_tool.specs.calls.CommandLine.{ReportsAnswer}
 use Rattle.bt_tool.specs.declared.planning.plan_type.Command.{Command}
 use Rattle.bt_tool.proofs.lemmas.running.whole.OwnFailureLemmas.{WritesOutput, flushed_no_read}
-use Rattle.bt_tool.proofs.lemmas.running.feed.WritingLemmas.{near_as, none_failed, none_read, none_up_to, reads_none}
+use Rattle.bt_tool.proofs.lemmas.running.feed.WritingLemmas.{near_as, none_failed, none_read, none_up_to, reads_none, reads_nothing}
 use Rattle.bt_tool.specs.model.Options.{options}
 use Rattle.bt_tool.specs.model.Table.{Word}
 use Rattle.bt_tool.specs.declared.options.usage.Usage.{Usage}
@@ -122,10 +121,6 @@ other_chromosomes chromosomes entries wrong o e = cc
 named_by_table : (table : Option Genome) → is_some (option_map entries table) ≡ is_some table
 named_by_table None = refl
 named_by_table (Some table) = refl
-
--- no read
-begun_none : {S : Type 0} {IsRead : S → Option (List ℕ) → S → Type 0} {source : S} → ReadsOn IsRead source [] source
-begun_none = begun_reads
 
 -- a failed write is reported only if the sink failed
 write_by : {P : Type 0} (b last : Bool) → (P → ⊥) → P ⊎ TellsDevice b last write_failed → b ≡ true
@@ -254,7 +249,7 @@ module _ {G A B K : Type 0} (source_g : Source G) (source_a : Source A) (source_
     pub runs_wrong : RunsSo
     runs_wrong = record {
       read = read_wrong;
-      reads = record { genome_file = lacks.reads; first_input = rw stops.1 begun_none; second_input = rw stops.2 (reads_none source_b.is_read second) };
+      reads = record { genome_file = lacks.reads; first_input = rw stops.1 (reads_nothing source_a first); second_input = rw stops.2 (reads_none source_b second) };
       whole = λ inputs before reads known served memory.
           let w = whole_by begun mid new fault answer (Some wrong) (before ++ [])
           (λ write growth. (stops.0, begun_put before known)) (λ e. absurd (no_write e)) (sym writes_over.failed_after ∙ served) memory flushes.ends in
