@@ -30,10 +30,10 @@ handed_as false true before after bytes reads = reads.fails.1 ∙ handed_on read
 handed_as true true before after bytes reads = absurd reads
 
 -- of an input that handed over nothing before, they are all that it handed over
-all_handed : (before after : Opened) (read : InputRead) → opened_handed before ≡ [] → ReadsSo opened_source.is_read before read after → IsReadOf read after
-all_handed before after read none reads = sym (handed_as read.told read.failed before after read.bytes reads ∙ ap (λ l. l ++ read.bytes) none)
+all_handed : (before after : Opened) (read : InputRead) → opened_handed before ≡ [] → ReadsSo opened_source before read after → IsReadOf read after
+all_handed before after read none reads = sym (handed_as read.told read.failed before after read.bytes reads.went ∙ ap (λ l. l ++ read.bytes) none)
 
-all_handed_if : (before after : Option Opened) (read : Option InputRead) → IfSome before (λ input. opened_handed input ≡ []) → ReadsSoIf opened_source.is_read before read after → OfBoth IsReadOf read after
+all_handed_if : (before after : Option Opened) (read : Option InputRead) → IfSome before (λ input. opened_handed input ≡ []) → ReadsSoIf opened_source before read after → OfBoth IsReadOf read after
 all_handed_if None None None none reads = tt
 all_handed_if (Some before) (Some after) (Some read) none reads = all_handed before after read none reads
 all_handed_if None None (Some read) none reads = absurd reads

@@ -197,7 +197,6 @@ module _ {A B : Type 0} (source_a : Source A) (source_b : Source B) (behaviour :
         → (TellsInput source_a behaviour.FirstKinds First one first_after told
         ⊎ TellsInputIf source_b behaviour.SecondKinds Second two second_after told)
         ⊎ TellsDevice grown.sink_has_failed grown.sink_last_failed told
-
     -- all reads served if no failed read is reported
     pub no_failed : TellsNoRead fault → (one.failed ≡ false) × NoneFailed two
 

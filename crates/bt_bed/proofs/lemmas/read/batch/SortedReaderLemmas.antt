@@ -443,8 +443,8 @@ module _ {S Q : Type 0} (sorted : SortedReader S Q) (some : sorted.is_ahead ≡ 
             answers = (
               record { line = first_is.line.number; item = ahead_parts.0 },
               gives_again device (view_in sorting sorted) first_is.line first_is.more ahead_parts.0 ahead_parts.1 (placed.going (ap is_some_left ahead_parts.2))
-                (going_below (option_map fault_value sorted.fault) (line_fault sorted.reader) (placed.going (ap is_some_left ahead_parts.2)))
-                (next_bytes sorted.reader first_is.line first_is.more first_is.lines_are) first_is.lines_are (next_number sorted.reader first_is.line first_is.more first_is.lines_are) says ahead_parts.2,
+                  (going_below (option_map fault_value sorted.fault) (line_fault sorted.reader) (placed.going (ap is_some_left ahead_parts.2)))
+                  (next_bytes sorted.reader first_is.line first_is.more first_is.lines_are) first_is.lines_are (next_number sorted.reader first_is.line first_is.more first_is.lines_are) says ahead_parts.2,
             );
             kept = λ was. was;
           };

@@ -203,8 +203,11 @@ module _ {S A State : Type 0} {written : Written A} {Taken : List A → Type 0} 
             (part.front, part.rest ++ more.0, more.1 ∙ ap (λ l. l ++ more.0) part.parts ∙ append_assoc part.front part.rest more.0, part.puts before put);
         grows = fed.took.grows;
         served = λ e. cc;
-        near = (suc fed.took.read.to.count, λ one two before taken holds others put known. near_by device driven kinds Sorted out hands holds put known fed.took.read fed.took.kept
-            (IsFaultButWrite (Some fault)) (λ stops. fed.exact (λ is. stops.1 (ap Some is))));
+        near = (
+          suc fed.took.read.to.count,
+          λ one two before taken holds others put known. near_by device driven kinds Sorted out hands holds put known fed.took.read fed.took.kept
+              (IsFaultButWrite (Some fault)) (λ stops. fed.exact (λ is. stops.1 (ap Some is))),
+        );
         named = λ told e. subst (λ t. (TellsInput device kinds First (read device old driven.starts new driven.ended hands) last t ⊎ ⊥) ⊎ TellsDevice grown.sink_has_failed grown.sink_last_failed t) (some_is fault told e)
             (named_by device driven kinds Sorted out hands fed.cause);
         no_failed = λ never. (not_failed device old driven.starts new driven.ended hands (none never), tt);

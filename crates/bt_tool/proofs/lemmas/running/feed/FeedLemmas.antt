@@ -330,10 +330,10 @@ module _ {S O E : Type 0} {ghosts : Ghosts O} {definition : EngineDef E} {first 
       not_taken : definition.takes first (member_items before ++ f.r ∷ []) → definition.fault f.mid ≡ None → Grows (f.through).took later.took → NotTaken definition f.mid f.r f.through (fault_value fault) fed later → StopsUpTo (fault_value fault) new later
       unfolding passes_take
       not_taken may going grows (inl again) = absurd (let apart : None ≡ Some (fault_value fault) = sym going ∙ again.is in cc)
-      not_taken may going grows (inr (inl fails)) = 
+      not_taken may going grows (inr (inl fails)) =
           let cuts = fails.cuts first (member_items before) at_mid.stands may in
           fails_writing f.r given_items passes read at_mid.put sorted_given cuts.bytes cuts.goes_on fails.is cuts.front fails.failed fails.sink_failed grows
-      not_taken may going grows (inr (inr out_of)) = 
+      not_taken may going grows (inr (inr out_of)) =
           let puts = out_of.puts first (member_items before) at_mid.stands may in
           fails_growing f.r given_items passes read at_mid.put sorted_given puts.bytes puts.goes_on out_of.is puts.appends out_of.works grows
 

@@ -107,10 +107,13 @@ module _ {A B : Type 0} (source_a : Source A) (source_b : Source B) where
       served = λ none.
           let s = w.served none in
           ((s.0.0, grind arith), s.1);
-      near = (w.near.0, λ one two before taken holds others put known.
-          near_as _ (IsWithin w.one.told one.text w.near.0 → HandsUpTo (yours.reaches two (take w.near.0 (text_lines one.text)) + block_size) (none_read second))
-          (λ beside end. none_up_to (yours.reaches two (take w.near.0 (text_lines one.text)) + block_size) second) same_faults (same_settle two) (grown.has_failed ≡ true) (grown.has_failed ≡ true) (IsFaultButWrite fault) (IsFaultButWrite fault)
-          (λ size took. took) (λ size kept. kept) (λ bytes is stops. is stops) (w.near.1 one None before taken holds (none_with (OfBoth MayHold) tt) put known));
+      near = (
+        w.near.0,
+        λ one two before taken holds others put known.
+            near_as _ (IsWithin w.one.told one.text w.near.0 → HandsUpTo (yours.reaches two (take w.near.0 (text_lines one.text)) + block_size) (none_read second))
+            (λ beside end. none_up_to (yours.reaches two (take w.near.0 (text_lines one.text)) + block_size) second) same_faults (same_settle two) (grown.has_failed ≡ true) (grown.has_failed ≡ true) (IsFaultButWrite fault) (IsFaultButWrite fault)
+            (λ size took. took) (λ size kept. kept) (λ bytes is stops. is stops) (w.near.1 one None before taken holds (none_with (OfBoth MayHold) tt) put known),
+      );
       named = λ t e. elim (w.named t e) [
         | inl tells ↦ elim tells [ inl tells ↦ inl (inl (same_kinds t w.one tells)) | inr none ↦ absurd (subst (λ two. TellsInputIf source_a mine.SecondKinds Second two None t) alone none) ]
         | inr tells ↦ inr tells

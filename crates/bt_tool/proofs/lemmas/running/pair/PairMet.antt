@@ -261,7 +261,7 @@ module _ {A B X Y U V : Type 0} {join : JoinDef X Y} {pair : Pair A B X Y U V} {
     meets_first other is stops =
         let says = first_wrong stops.past other one (subst (λ f. CameOne f one) is came) stops.cause in
         let begun : Begins (good_one one) = ([], ap member_items says.0 ∙ sym stops.all_given ∙ sym (append-nil w.wrote.given)) in
-        let may = limited_may (good_one one) (good_two two)  begun (second_whole fault two came_second stops.serves SeesTwo second_sees) in
+        let may = limited_may (good_one one) (good_two two) begun (second_whole fault two came_second stops.serves SeesTwo second_sees) in
         grind (arith, here_by)
 
     meets_second : (other : FaultValue) → fault ≡ Some other → SecondStops join pair out w.first_bytes.0 w.second_bytes.0 w.written w.wrote.ended first second other → MeetsHere
@@ -277,7 +277,7 @@ module _ {A B X Y U V : Type 0} {join : JoinDef X Y} {pair : Pair A B X Y U V} {
         ∙ ap (λ ms. join.decided stops.waiting (member_items ms)) says.0
         ∙ stops.undecided in
         let told : (limit one two).fault ≡ Some other = ap (λ (g : Good Y). g.fault) same ∙ says.1 in
-        let met = meets_stop join (good_one one) (limit one two) w.written w.bytes (here_by one two  (subst MayBe (sym same) says.2)) stops.waiting waits.0 other waits.1 told undecided_by in
+        let met = meets_stop join (good_one one) (limit one two) w.written w.bytes (here_by one two (subst MayBe (sym same) says.2)) stops.waiting waits.0 other waits.1 told undecided_by in
         (met.0, met.1 ∙ sym is)
 
     meets_limit : (other : FaultValue) → fault ≡ Some other → LimitStops join pair out w.first_bytes.0 w.second_bytes.0 w.written first second other → MeetsHere
@@ -285,12 +285,12 @@ module _ {A B X Y U V : Type 0} {join : JoinDef X Y} {pair : Pair A B X Y U V} {
         let waits = first_whole fault one came stops.serves (λ good. (rest : List X) × (items_in good ≡ w.written ++ stops.waiting ∷ rest)) stops.begins in
         let begun = first_whole fault one came stops.serves Begins w.wrote.given_begin in
         let comes = second_whole fault two came_second stops.serves_second (λ good. (rest : List (Member Y)) × (good.members ≡ (stops.past ++ stops.m ∷ []) ++ rest)) stops.comes in
-        let may = limited_may (good_one one) (good_two two)  begun (second_whole fault two came_second stops.serves_second SeesTwo second_sees) in
+        let may = limited_may (good_one one) (good_two two) begun (second_whole fault two came_second stops.serves_second SeesTwo second_sees) in
         let cut : limit one two ≡ record { members = stops.past ++ stops.m ∷ []; fault = Some other } =
         ap (λ (l : List X). join.within_limit l (good_two two)) waits.1
         ∙ ap (join.within_limit (w.written ++ stops.waiting ∷ waits.0)) (good_is (good_two two) ((stops.past ++ stops.m ∷ []) ++ comes.0) (good_two two).fault comes.1 refl)
         ∙ stops.cuts waits.0 comes.0 (good_two two).fault in
-        let met = meets_stop join (good_one one) (limit one two) w.written w.bytes (here_by one two  may) stops.waiting waits.0 other waits.1 (ap (λ (g : Good Y). g.fault) cut)
+        let met = meets_stop join (good_one one) (limit one two) w.written w.bytes (here_by one two may) stops.waiting waits.0 other waits.1 (ap (λ (g : Good Y). g.fault) cut)
         (ap (λ (g : Good Y). join.decided stops.waiting (items_in g)) cut ∙ stops.undecided) in
         (met.0, met.1 ∙ sym is)
 
@@ -306,8 +306,8 @@ module _ {A B X Y U V : Type 0} {join : JoinDef X Y} {pair : Pair A B X Y U V} {
           → (rest : List (Member Y)) × ((good_two two).members ≡ w.wrote.seen ++ rest) → (w.wrote.ended ≡ true → (good_two two).members ≡ w.wrote.seen) → MeetsHere
       at_last told is last may begins ends =
           let begun = first_whole fault one came stops.serves Begins w.wrote.given_begin in
-          let same = free (good_one one) (good_two two)  begun every (in_order two) begins.0 begins.1 ends in
-          let here : HereAs join (good_two two) w.written w.bytes = (w.wrote.settles ).whatever (items_in (good_two two)) (good_two two).fault (in_order two) may in
+          let same = free (good_one one) (good_two two) begun every (in_order two) begins.0 begins.1 ends in
+          let here : HereAs join (good_two two) w.written w.bytes = (w.wrote.settles).whatever (items_in (good_two two)) (good_two two).fault (in_order two) may in
           grind (arith, whole_first)
 
       meets_rest : MeetsHere

@@ -186,20 +186,23 @@ module _ {A B X Y U V : Type 0} {join : JoinDef X Y} {pair : Pair A B X Y U V} {
   pub near_both : (n : ℕ) × ((one two : Handed) (before taken : List ℕ) → MayHold one_read one → MayHold two_read two → out.put ≡ Some before → out.took ≡ Some taken
       → ReadsNoFurther n (IsWithin one_read.told one.text n → length two_read.bytes ≤ reaches two (take n (text_lines one.text)) + block_size)
       (λ lines. (good first_format First lines).fault) (settles two) one.text one_read.bytes before grown.took (grown.has_failed ≡ true) (IsFaultButWrite fault) grown.put)
-  near_both = (suc count, λ one two before taken holds others put took.
-      let less : suc count - 1 ≡ count = omega arith in
-      let same : near.bytes ≡ settles two (take count (text_lines one.text)) = sym (settled one two holds others) in
-      let lines : TookButBlock out (settles two (take count (text_lines one.text))) grown = subst (λ l. TookButBlock out l grown) same near.took in
-      let handed = handed_to pair.source_a pair.first begins first ended w.first_bytes.1 count holds.rest holds.follows near.first_near.to.near in
-      record {
-        some = omega arith;
-        faultless = rw less (ap (λ (g : Good X). g.fault) (on_first one two holds others));
-        read = subst (λ (t : Handed). length w.first_bytes.0 ≤ bytes_in (take (suc count) (text_lines t.text)) + block_size) (sym holds.is) handed;
-        settled = rw less (lines.took before taken put took);
-        kept = rw less (elim lines.put [ inl failed ↦ inl failed | inr kept ↦ inr (kept before put) ]);
-        exact = rw less (λ stops. w.exact stops before put ∙ ap (λ l. Some (before ++ l)) same);
-        beside = beside one two holds others near.beside;
-      })
+  near_both = (
+    suc count,
+    λ one two before taken holds others put took.
+        let less : suc count - 1 ≡ count = omega arith in
+        let same : near.bytes ≡ settles two (take count (text_lines one.text)) = sym (settled one two holds others) in
+        let lines : TookButBlock out (settles two (take count (text_lines one.text))) grown = subst (λ l. TookButBlock out l grown) same near.took in
+        let handed = handed_to pair.source_a pair.first begins first ended w.first_bytes.1 count holds.rest holds.follows near.first_near.to.near in
+        record {
+          some = omega arith;
+          faultless = rw less (ap (λ (g : Good X). g.fault) (on_first one two holds others));
+          read = subst (λ (t : Handed). length w.first_bytes.0 ≤ bytes_in (take (suc count) (text_lines t.text)) + block_size) (sym holds.is) handed;
+          settled = rw less (lines.took before taken put took);
+          kept = rw less (elim lines.put [ inl failed ↦ inl failed | inr kept ↦ inr (kept before put) ]);
+          exact = rw less (λ stops. w.exact stops before put ∙ ap (λ l. Some (before ++ l)) same);
+          beside = beside one two holds others near.beside;
+        },
+  )
 
 -- Lemmas on what is consumed of the records that a reader has buffered, once their batch was given.
 

@@ -307,8 +307,8 @@ module _ {A B X Y U V : Type 0} {join : JoinDef X Y} {pair : Pair A B X Y U V} {
       | inr some ↦ (
         past_first ++ some.0,
         sym (same_from_push new.written (member_items (past_first ++ some.0)) x some.1.item
-        (ap (λ (o : Option X). new.written ++ option_to_list o) (sym waits) ∙ all_now ∙ ap (λ (l : List (Member X)). member_items (past_first ++ l)) some.2
-        ∙ ap member_items (sym (append_assoc past_first some.0 (some.1 ∷ []))) ∙ map-append (λ m. m.item) (past_first ++ some.0) (some.1 ∷ []))).0,
+            (ap (λ (o : Option X). new.written ++ option_to_list o) (sym waits) ∙ all_now ∙ ap (λ (l : List (Member X)). member_items (past_first ++ l)) some.2
+            ∙ ap member_items (sym (append_assoc past_first some.0 (some.1 ∷ []))) ∙ map-append (λ m. m.item) (past_first ++ some.0) (some.1 ∷ []))).0,
         takes.last some.0 some.1 some.2,
         λ e. absurd (false≢true (sym going ∙ sym follows.first_is ∙ e)),
       )

@@ -203,11 +203,14 @@ module _ {G A B K : Type 0} (source_g : Source G) (source_a : Source A) (source_
           let f = front_by begun mid new fault answer (writes_over.took ∙ known) writes.grows flushes.grows
           (λ other. writes.kept other inputs.first inputs.second before holds.first_input holds.second_input (writes_over.put ∙ known)) (λ is. writes.cut is inputs.first inputs.second before holds.first_input holds.second_input (writes_over.put ∙ known)) flushes.ends in
           (f.0, f.1, writes_over.took_after ∙ f.2, ap (λ (r : Report). r.output) (report_is inputs (knows.told inputs.genome holds.genome_file)) ∙ f.3);
-      near = (writes.near.0, λ inputs before holds known.
-          let near = writes.near.1 inputs.first inputs.second before before holds.first_input holds.second_input (writes_over.put ∙ known) (writes_over.took ∙ known) in
-          rw (knows.told inputs.genome holds.genome_file, writes_over.took_after) (near_as _ _ (λ beside. beside) (λ lines. refl) (λ lines. refl) (mid.has_failed ≡ true)
-          (answer ≡ Some write_failed) (IsFaultButWrite fault) (IsFaultButWrite answer) (λ size. took_more_than begun.took mid.took new.took before size (writes_over.took ∙ known) writes.grows flushes.grows) (λ size kept. kept_by begun mid new fault answer size kept flushes.ends)
-          (λ bytes is stops. exact_by begun mid new fault answer bytes is stops flushes.ends) near));
+      near = (
+        writes.near.0,
+        λ inputs before holds known.
+            let near = writes.near.1 inputs.first inputs.second before before holds.first_input holds.second_input (writes_over.put ∙ known) (writes_over.took ∙ known) in
+            rw (knows.told inputs.genome holds.genome_file, writes_over.took_after) (near_as _ _ (λ beside. beside) (λ lines. refl) (λ lines. refl) (mid.has_failed ≡ true)
+            (answer ≡ Some write_failed) (IsFaultButWrite fault) (IsFaultButWrite answer) (λ size. took_more_than begun.took mid.took new.took before size (writes_over.took ∙ known) writes.grows flushes.grows) (λ size kept. kept_by begun mid new fault answer size kept flushes.ends)
+            (λ bytes is stops. exact_by begun mid new fault answer bytes is stops flushes.ends) near),
+      );
       served = λ none.
           let was = served_by begun mid new fault answer flushes.ends none in
           let devices = writes.served was.0 in
@@ -263,11 +266,14 @@ module _ {G A B K : Type 0} (source_g : Source G) (source_a : Source A) (source_
           let f = front_by begun mid new fault answer (writes_over.took ∙ known) mid_grows flushes.grows
           (λ other. ([], (report_of command inputs).output, refl, begun_put before known)) (λ is. absurd (no_write is)) flushes.ends in
           (f.0, f.1, writes_over.took_after ∙ f.2, f.3);
-      near = (1, λ inputs before holds known.
-          rw writes_over.took_after (near_untouched _ (λ within. none_up_to _ second)
-          command (chromosomes_of inputs.genome) inputs.second (writes_over.took ∙ known) (grows_both begun.took mid.took new.took mid_grows flushes.grows)
-          (answer ≡ Some write_failed) (IsFaultButWrite answer) (kept_by begun mid new fault answer (length (before ++ [])) (inr (before ++ [], begun_put before known, omega arith)) flushes.ends)
-          (λ other. exact_by begun mid new fault answer (before ++ []) (λ was. begun_put before known) other flushes.ends)));
+      near = (
+        1,
+        λ inputs before holds known.
+            rw writes_over.took_after (near_untouched _ (λ within. none_up_to _ second)
+            command (chromosomes_of inputs.genome) inputs.second (writes_over.took ∙ known) (grows_both begun.took mid.took new.took mid_grows flushes.grows)
+            (answer ≡ Some write_failed) (IsFaultButWrite answer) (kept_by begun mid new fault answer (length (before ++ [])) (inr (before ++ [], begun_put before known, omega arith)) flushes.ends)
+            (λ other. exact_by begun mid new fault answer (before ++ []) (λ was. begun_put before known) other flushes.ends)),
+      );
       served = λ none.
           absurd (let apart : None ≡ Some wrong = sym (served_by begun mid new fault answer flushes.ends none).0 ∙ stops.0 in cc);
       no_failed = λ no_write never. (lacks.no_failed (subst TellsNoRead stops.0 (flushed_no_read mid new fault answer flushes no_write never)), refl, none_failed second);
