@@ -1,4 +1,5 @@
 -- Lemmas on a call that is left: what was opened before, and what was read of its stream.
+use Rattle.bt_lines.proofs.lemmas.reader.block.ReadsLemmas.{reads_ended}
 use Rattle.bt_lines.proofs.Std.{◌≡◌, ◌⊎◌, ◌&&◌, Bool, Option, Some, None, Ok, false, inl, inr, refl, subst, sym, true, false≢true, option_map}
 use Rattle.bt_lines.specs.declared.device.Source.{Ghosts as Source}
 use Rattle.bt_lines.specs.calls.Device.{FailsAfter, ReadsOn}
@@ -101,7 +102,7 @@ module _ {F I O : Type 0} (files : Files F I O) (source : Source I) (P Q : Word 
   kept_stream before name seen after sees = record {
     opened = sees.opened;
     opens = sees.opens;
-    handed = inl (subst (λ bytes. ReadsOn source.is_read sees.opened bytes sees.stream.source) (sym (sees.surveys.1)) sees.surveys.0.served);
+    handed = inl (subst (λ bytes. ReadsOn source.is_read sees.opened bytes sees.stream.source) (sym (sees.surveys.1)) (reads_ended source.is_read sees.surveys.0.told));
   }
 
   -- an input was looked at, and the verdict left the call

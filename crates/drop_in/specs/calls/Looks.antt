@@ -3,7 +3,7 @@ use Rattle.std.specs.Prelude.{ℕ, ◌≡◌, ◌⊎◌, Bool, true, false, List
 use Rattle.bt_lines.specs.declared.device.Source.{Ghosts as Source}
 use Rattle.bt_lines.specs.declared.fault.Input.{Input}
 use Rattle.bt_lines.specs.declared.fault.Input.TheVariants.{Genome}
-use Rattle.bt_lines.specs.calls.Device.{FailsAfter, ReadsOn}
+use Rattle.bt_lines.specs.calls.Device.{EndsAfter, FailsAfter, ReadsOn}
 use Rattle.bt_lines.specs.model.Lines.{whole_text}
 use Rattle.bt_bed.specs.model.Genome.{Entry, genome_handed}
 use Rattle.bt_bed.specs.calls.GenomeTable.{entries}
@@ -29,8 +29,7 @@ pub data OnlyOpens {F I O : Type 0} (files : Files F I O) (IsNamed : Word → Ty
 -- all that a source hands over, up to its end
 pub record ReadsText {S : Type 0} (source : Source S) (before : S) (text : List ℕ) : Type 0 where
   pub after : S
-  pub served : ReadsOn source.is_read before text after
-  pub told : source.end_told after ≡ true
+  pub served : EndsAfter source.is_read before text after
 
 -- whether it reads a stream
 abbrev pub is_stream : {I : Type 0} → Reading I → Bool
