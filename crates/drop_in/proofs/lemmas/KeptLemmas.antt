@@ -124,7 +124,7 @@ module _ {S : Type 0} (device : Source S) where
 
 module _ {I : Type 0} (source : Source I) where
   -- the bytes that are left of it; those of an input that was opened aren't known
-  front_left : FrontInput I → Option (List ℕ)
+  abbrev front_left : FrontInput I → Option (List ℕ)
   front_left (Opened input) = None
   front_left (Kept text) = kept_left text
 

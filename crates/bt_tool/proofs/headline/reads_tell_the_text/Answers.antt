@@ -1,4 +1,4 @@
-use Rattle.bt_lines.proofs.Std.{Bool, List, Option, [], absurd, append-nil, false, false≢true, refl, sym, true, ℕ, ◌++◌, ◌∙◌, ◌≡◌}
+use Rattle.bt_lines.proofs.Std.{Bool, List, Option, [], append-nil, false, false≢true, refl, sym, true, ℕ, ◌++◌, ◌∙◌, ◌≡◌}
 use Rattle.bt_lines.specs.calls.Device.{TellsText}
 use Rattle.bt_tool.specs.calls.Inputs.{ReadsAs}
 use Rattle.bt_tool.proofs.headline.reads_tell_the_text.Goals as goal
