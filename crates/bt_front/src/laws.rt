@@ -16,7 +16,8 @@ pub fn common_orders_fit()
     ensures read { order_is_read }
 {}
 
-/// A survey of a source whose text is known is of that text: of all of it, or of its start up to what leaves it to bedtools.
+/// A survey of a source that tells its text is of that text: of all of it, or of its start up to what leaves it to
+/// bedtools.
 pub fn surveys_tell_the_text<S: Source>()
     ensures { surveys_tell_the_text S.Source }
 {}

@@ -20,8 +20,8 @@ pub fn runs_show_the_report<G: Source, A: Source, B: Source, K: Sink>()
     ensures run { ShowsReport G.Source A.Source B.Source K.Sink }
 {}
 
-/// What a run read of an input whose text is known: the bytes that its reads handed over begin the text, also if one failed,
-/// and are all of it if one reported the end. bt_lines says of which sources the text is known.
+/// What a run read of an input that tells its text: the bytes that its reads handed over begin the text, also if one
+/// failed, and are all of it if one reported the end. Laws of bt_lines say which sources tell theirs.
 pub fn reads_tell_the_text<S: Source>()
     ensures { reads_tell_the_text S.Source }
 {}

@@ -52,8 +52,8 @@ impl<I: Source> Source for FrontInput<I> {
     }
 }
 
-/// An input that gives a text from memory tells that text: its reads hand over the start of it, and all of it once one of
-/// them reports the end.
+/// An input that gives a text from memory tells that text: its reads hand over the start of it, and all of it once one
+/// of them reports the end.
 pub fn kept_texts_are_told<I: Source>()
     ensures { kept_texts_are_told I.Source }
 {}

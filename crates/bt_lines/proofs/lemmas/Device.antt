@@ -1,5 +1,8 @@
 -- Lemmas on devices that play a script.
-use Rattle.bt_lines.proofs.Std.{◌≡◌, ℕ, ◌+◌, List, [], ◌++◌, Option, None, Some, refl, subst, drop, slice_range, ap, ◌∙◌, sym, arith, append-nil, drop_split, Consumes, Consumes-nil, Consumes-trans, IsAtEnd}
+use Rattle.bt_lines.proofs.Std.{◌≡◌, ℕ, ◌+◌, List, [], ◌++◌, Option, None, Some, refl, subst, drop, slice_range, ap, ◌∙◌, sym, arith, append-nil, append_assoc, drop_split, Consumes, Consumes-nil, Consumes-trans, IsAtEnd}
+use Rattle.std.proofs.lemmas.List.{append_cancel_left}
+use Rattle.bt_lines.proofs.lemmas.reader.block.ReadsLemmas.{ends_later, reads_then}
+use Rattle.bt_lines.specs.calls.Telling.{what_is_left_is_told}
 use Rattle.bt_lines.specs.calls.Device.{EndsAfter, Gives, ReadsOn, TellsText, begun, gave}
 
 -- the bytes that were handed over, and those still to come
@@ -41,3 +44,25 @@ module _ {S : Type 0} (IsRead : S → Option (List ℕ) → S → Type 0) (left 
       hands = λ bytes after reads. some_rest text (left after) bytes (told bytes after (handed_over reads));
       ends = told_all;
     }
+
+-- what is left of a text, once reads handed over the start of it
+pub left_told : {S : Type 0} (IsRead : S → Option (List ℕ) → S → Type 0) → what_is_left_is_told IsRead
+left_told {S} IsRead source text bytes after tells reads = (rest, parts, record { hands = hands; ends = ends })
+  where
+    first : (rest : List ℕ) × (text ≡ bytes ++ rest)
+    first = tells.hands bytes after reads
+
+    rest : List ℕ
+    rest = first.0
+
+    parts : text ≡ bytes ++ rest
+    parts = first.1
+
+    hands : (more : List ℕ) (last : S) → ReadsOn IsRead after more last → (others : List ℕ) × (rest ≡ more ++ others)
+    hands more last then =
+        let all = tells.hands (bytes ++ more) last (reads_then IsRead reads then) in
+        (all.0, append_cancel_left bytes rest (more ++ all.0) (sym parts ∙ all.1 ∙ append_assoc bytes more all.0))
+
+    ends : (more : List ℕ) (last : S) → EndsAfter IsRead after more last → rest ≡ more
+    ends more last then =
+        append_cancel_left bytes rest more (sym parts ∙ tells.ends (bytes ++ more) last (ends_later IsRead reads then))

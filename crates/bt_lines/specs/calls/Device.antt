@@ -47,8 +47,8 @@ module _ {S : Type 0} (IsRead : S → Option (List ℕ) → S → Type 0) where
     pub served : ReadsOn IsRead old bytes before
     pub tells : IsRead before (Some []) new
 
-  -- A source tells its whole text, what of it was handed over, and whether its end was told by an answer of 0: this is the
-  -- text that is left of it.
+  -- A source tells its whole text, what of it was handed over, and whether its end was told by an answer of 0: this text
+  -- is what is left of it.
   pub record TellsText (source : S) (text : List ℕ) : Type 0 where
     -- what its reads hand over is the start of the text, also if one fails after them
     pub hands : (bytes : List ℕ) (after : S) → ReadsOn IsRead source bytes after

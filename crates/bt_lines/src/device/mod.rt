@@ -22,8 +22,8 @@ pub trait Source {
     // Whether a read has failed.
     ghost has_failed: { Self → Bool };
 
-    // A read into a block with room took the one source to the other and handed over these bytes, or failed if there are
-    // none to name. No bytes, `Some []`, report the end. Only `read` gives it.
+    // A read into a block with room took the one source to the other and handed over these bytes, or failed if there
+    // are none to name. No bytes, `Some []`, report the end. Only `read` gives it.
     ghost is_read: { Self → Option (List ℕ) → Self → Type 0 };
 
     /// Hands over the next bytes, as many as it likes of those that fit the block, and 0 for a block
