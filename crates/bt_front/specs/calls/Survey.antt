@@ -85,4 +85,4 @@ abbrev pub surveys_tell_the_text : {S : Type 0} → Source S → Type 0
 surveys_tell_the_text {S} device = (before after : S) (text : List ℕ) → TellsText device.is_read before text
     → ((survey : Survey) (surveys : Surveys device before after survey) → text ≡ surveys.bytes)
     × ((trouble : Trouble) (leaves : LeavesText device before after trouble)
-        → (rest : List ℕ) × (text ≡ leaves.bytes ++ rest) × (leaves.ended ≡ true → rest ≡ []))
+    → (rest : List ℕ) × (text ≡ leaves.bytes ++ rest) × (leaves.ended ≡ true → rest ≡ []))
