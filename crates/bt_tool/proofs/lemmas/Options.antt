@@ -89,9 +89,9 @@ pub options-tellable : (words : List Word) (usage : Usage) → options words ≡
     → IsTellable usage (length words)
 options-tellable words usage e = named-tellable words (command_of words) usage refl e
 
-pub reports_plan : {E : Type 0} (words : List Word) (result : Result Plan E) → IfOk result (λ plan. options words ≡ Ok (plan_seen plan)) → IfOk result (λ plan. ReportsAnswer words (Ok (plan_seen plan)))
+pub reports_plan : (words : List Word) (plan : Plan) → options words ≡ Ok (plan_seen plan) → ReportsAnswer words (Ok (plan_seen plan))
 unfolding report
-reports_plan words result h = grind arith
+reports_plan words plan h = grind arith
 
 refusal_reports : (words : List Word) (refusal : Refusal) → IsRefusalOf words refusal → ReportsRefusal words refusal
 unfolding report

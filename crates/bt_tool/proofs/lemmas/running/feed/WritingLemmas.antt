@@ -6,14 +6,13 @@ use Rattle.bt_lines.specs.model.Lines.{Handed, TextLine, text_lines, bytes_in}
 use Rattle.bt_lines.specs.calls.Line.{line_feeds}
 use Rattle.bt_lines.specs.calls.Output.{Output, block_size}
 use Rattle.bt_lines.specs.declared.fault.Input.TheVariants.{First, Second}
-use Rattle.bt_bed.specs.model.Genome.{Entry}
-use Rattle.bt_tool.specs.model.Behaviour.{Behaviour, behaviour_of}
+use Rattle.bt_tool.specs.model.Behaviour.{Behaviour}
 use Rattle.bt_tool.specs.calls.Inputs.{CameOf, HandsUpTo, InputRead, MayHold, OfBoth, ReadsSo, ReadsSoIf}
 use Rattle.bt_lines.specs.calls.Device.{begun}
 use Rattle.bt_tool.proofs.lemmas.running.members.CursorLemmas.{IsWhole}
 use Rattle.bt_bed.specs.model.Meeting.{Report}
 use Rattle.bt_tool.specs.calls.Run.{NoneFailed, IsFaultButWrite, IsOfInput, IsPutTo, IsReported, IsWithin, ReadsNoFurther, TellsInput, TellsInputIf, RunsBy}
-use Rattle.bt_tool.specs.declared.planning.plan_type.Command.{Command}
+use Rattle.bt_lines.specs.declared.fault.Kind.{Kind}
 use Rattle.bt_lines.specs.calls.Reader.{CutsOff, Hands, bytes_taken, end_told}
 use Rattle.bt_lines.specs.declared.reader.line_reader.LineReader.{LineReader}
 use Rattle.bt_lines.proofs.lemmas.reader.lines.TextLemmas.{line_feeds-append}
@@ -117,17 +116,35 @@ module _ {A B : Type 0} (source_a : Source A) (source_b : Source B) where
       no_failed = λ never. ((w.no_failed never).0, none_failed second);
     }
 
-  -- what a command does that doesn't look at a second input
-  pub behaves_alone : {command : Command} (chromosomes : Option (List Entry))
-      → ((one : Handed) (two : Option Handed) → (behaviour_of command chromosomes).report one None ≡ (behaviour_of command chromosomes).report one two)
-      → ((two : Option Handed) (lines : List TextLine) → (behaviour_of command chromosomes).settles None lines ≡ (behaviour_of command chromosomes).settles two lines)
-      → {is : Command} → is ≡ command → {first : A} {second : Option B} {out : Output} {fault : Option FaultValue} {first_after : A} {grown : Output}
-      → RunsBy source_a source_a (behaviour_of command chromosomes) first None out fault first_after None grown
-      → RunsBy source_a source_b (behaviour_of is chromosomes) first second out fault first_after second grown
-  behaves_alone {command} chromosomes same same_settle e {first} {second} {out} {fault} {first_after} {grown} w =
-      let behaviour = behaviour_of command chromosomes in
-      subst (λ (command : Command). RunsBy source_a source_b (behaviour_of command chromosomes) first second out fault first_after second grown) (sym e)
-      (alone_writes behaviour same same_settle (λ lines. refl) second (λ t read tells. tells) w)
+  reads_alone : (two : Option InputRead) → ReadsSoIf source_a None two None → ReadsSoIf source_b None two None
+  reads_alone None reads = tt
+  reads_alone (Some read) reads = absurd reads
+
+  tells_alone : (Kinds : Kind → Type 0) (two : Option InputRead) (t : FaultValue) → TellsInputIf source_a Kinds Second two None t → TellsInputIf source_b Kinds Second two None t
+  tells_alone Kinds None t tells = absurd tells
+  tells_alone Kinds (Some read) t tells = absurd tells
+
+  -- what a command of one input does, if no second one is there
+  pub behaves_alone : {behaviour : Behaviour} {first : A} {out : Output} {fault : Option FaultValue} {first_after : A} {grown : Output}
+      → RunsBy source_a source_a behaviour first None out fault first_after None grown → RunsBy source_a source_b behaviour first None out fault first_after None grown
+  behaves_alone {behaviour} w = record {
+    one = w.one;
+    one_reads = w.one_reads;
+    two = w.two;
+    two_reads = reads_alone w.two w.two_reads;
+    whole = w.whole;
+    told = w.told;
+    cut = w.cut;
+    kept = w.kept;
+    grows = w.grows;
+    served = λ none. (((w.served none).0.0, tt), (w.served none).1);
+    near = w.near;
+    named = λ t e. elim (w.named t e) [
+      | inl tells ↦ elim tells [ inl tells ↦ inl (inl tells) | inr tells ↦ inl (inr (tells_alone behaviour.SecondKinds w.two t tells)) ]
+      | inr tells ↦ inr tells
+    ];
+    no_failed = w.no_failed;
+  }
 
 -- Lemmas that tell faults apart.
 

@@ -1,6 +1,10 @@
 -- What all members of two inputs give.
-use Rattle.bt_lines.proofs.Std.{ℕ, ◌||◌, List, is_none, ◌≡◌, suc, ◌+◌, ◌≤◌, ◌<◌, Bool, true, false, [], ◌∷◌, ◌++◌, Option, None, Some, refl, sym, ap, ◌∙◌, subst, append_assoc, append-nil, arith, flat_map, inl, inr, ◌⊎◌, ◌≢◌, All, IsSome, length, option_to_list, take, list_all, false≢true, or_from, map-append, All-head, All-tail}
+use Rattle.bt_lines.proofs.Std.{ℕ, ◌||◌, List, is_none, ◌≡◌, suc, ◌+◌, ◌≤◌, ◌<◌, Bool, true, false, [], ◌∷◌, ◌++◌, Option, None, Some, refl, sym, ap, ◌∙◌, subst, append_assoc, append-nil, arith, flat_map, inl, inr, ◌⊎◌, ◌≢◌, All, IsSome, length, option_to_list, take, list_all, false≢true, or_from, map-append, All-head, All-tail, Result, Ok, Err, option_map}
+use Rattle.std.specs.Result.{result_err}
 use Rattle.bt_lines.specs.model.Fault.{FaultValue}
+use Rattle.bt_lines.specs.declared.fault.Fault.{Fault}
+use Rattle.bt_lines.specs.calls.Names.{fault_value}
+use Rattle.bt_bed.specs.calls.SortedReader.{fault_in}
 use Rattle.bt_lines.specs.calls.Faults.{no_memory, write_failed}
 use Rattle.bt_bed.specs.model.Good.{Good, items_in, or_else, Format, Member, good, good_handed}
 use Rattle.bt_bed.specs.model.Meeting.{Report, Rule, join_report, written}
@@ -441,3 +445,8 @@ module _ {A B X Y U V : Type 0} {join : JoinDef X Y} {pair : Pair A B X Y U V} {
         not_failed pair.source_b pair.second begins_second second ended_second w.second_bytes.1 (none never).1,
       );
     }
+
+-- the fault of a result that is handed on as an option
+pub err_told : {T : Type 0} (result : Result T Fault) → option_map fault_value (result_err result) ≡ fault_in result
+err_told (Ok done) = refl
+err_told (Err fault) = refl
