@@ -1,5 +1,5 @@
 -- What a command of one input writes, as what any command writes of its inputs.
-use Rattle.bt_lines.proofs.Std.{[], ◌≡◌, ℕ, ◌+◌, ◌-◌, ◌≤◌, refl, true, List, ◌++◌, length, Option, None, Some, take, sym, ap, ◌∙◌, subst, arith, inl, inr, ◌⊎◌, IfSome, suc, ◌^◌, ◌<◌, false, drop, All, take-append-add, append_assoc, drop-drop, false≢true}
+use Rattle.bt_lines.proofs.Std.{[], ◌≡◌, ℕ, ◌+◌, ◌-◌, ◌≤◌, refl, true, List, ◌++◌, length, Option, None, Some, take, sym, ap, ◌∙◌, subst, arith, inl, inr, ◌⊎◌, IfSome, suc, ◌^◌, ◌<◌, false, drop, All, take-append-add, append_assoc, drop-drop}
 use Rattle.bt_lines.specs.declared.device.Source.{Ghosts as Source}
 use Rattle.bt_lines.specs.model.Fault.{FaultValue}
 use Rattle.bt_lines.specs.model.Lines.{Handed, TextLine, text_lines, bytes_in}
