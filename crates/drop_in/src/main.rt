@@ -29,6 +29,9 @@ mod programs;
 mod system;
 mod system_programs;
 mod versions;
+mod warning;
+#[cfg(test)]
+mod warning_tests;
 mod why;
 mod words;
 
@@ -48,6 +51,7 @@ use std::{env, io};
 use system::{DropInFiles, find_original, open_pipe, room, streams_of, writes_to_pipe};
 use system_programs::SystemPrograms;
 use versions::{is_for_any_version, is_known_version};
+use warning::Case;
 use why::Why;
 use words::{Request, option_of, value_place};
 
@@ -105,7 +109,11 @@ fn call_words(rt: &HostRuntime) -> io::Result<Vec<String>> {
 
 // A cause that no input is.
 fn cause_of(why: Why) -> Cause<'static> {
-    Cause { why, name: "" }
+    Cause {
+        why,
+        name: "",
+        warning: None,
+    }
 }
 
 fn answer_call(call: &Call<'_>, pipe: File) -> u8 {
@@ -143,7 +151,7 @@ fn why_unknown(rt: &HostRuntime, request: &Request) -> Option<Why> {
 
 // Answers a call without a stream.
 fn answer_files(call: &Call<'_>, pipe: File, request: Request, streams: Streams) -> u8 {
-    let Ok(names) = InputNames::of(call.rt, &request.plan) else {
+    let Ok(names) = InputNames::of(call.rt, &request) else {
         return call.leave(pipe, cause_of(Why::NoMemory));
     };
     let files = DropInFiles {
@@ -154,13 +162,7 @@ fn answer_files(call: &Call<'_>, pipe: File, request: Request, streams: Streams)
     let (answered, files) = answer(call.rt.alloc(), files, request, streams, 0);
     match answered {
         Answered::Took(finished) => end(call.rt, finished),
-        Answered::Left(left) => call.leave(
-            files.pipe,
-            Cause {
-                why: left.why,
-                name: names.about(left.why),
-            },
-        ),
+        Answered::Left(left) => call.leave(files.pipe, names.cause(left.why)),
     }
 }
 
@@ -175,7 +177,7 @@ fn answer_stream(
     let Some(room) = room(call.rt) else {
         return call.leave(pipe, cause_of(Why::Room));
     };
-    let Ok(names) = InputNames::of(call.rt, &request.plan) else {
+    let Ok(names) = InputNames::of(call.rt, &request) else {
         return call.leave(pipe, cause_of(Why::NoMemory));
     };
     let word = stream_word(call.words, &request.plan, streams.second);
@@ -188,10 +190,7 @@ fn answer_stream(
     match answered {
         Answered::Took(finished) => end(call.rt, finished),
         Answered::Left(left) => {
-            let cause = Cause {
-                why: left.why,
-                name: names.about(left.why),
-            };
+            let cause = names.cause(left.why);
             match left.stream {
                 Some(stream) => call.leave_stream(files.pipe, cause, Heir { path, word }, stream),
                 None => call.leave(files.pipe, cause),
@@ -200,21 +199,37 @@ fn answer_stream(
     }
 }
 
-// The names of a plan's inputs, kept beside it.
+// The names of a plan's inputs, kept beside it, and what decides what bedtools does with their lines.
 #[derive(Drop)]
 struct InputNames {
     genome: String,
     first: String,
     second: String,
+    case: Case,
 }
 
 impl InputNames {
-    fn of(rt: &HostRuntime, plan: &Plan) -> io::Result<InputNames> {
+    fn of(rt: &HostRuntime, request: &Request) -> io::Result<InputNames> {
+        let plan = &request.plan;
         Ok(InputNames {
             genome: copy_of(rt, &plan.genome)?,
             first: String::from_str(rt.alloc(), plan.first.as_str())?,
             second: copy_of(rt, &plan.second)?,
+            case: Case {
+                command: plan.command,
+                is_sorted: request.is_sorted,
+                has_genome: plan.genome.is_some(),
+            },
         })
+    }
+
+    // The cause of a call that is left.
+    fn cause(&self, why: Why) -> Cause<'_> {
+        Cause {
+            why,
+            name: self.about(why),
+            warning: self.case.warning(why),
+        }
     }
 
     // The name of the input that is the cause, or no text.
