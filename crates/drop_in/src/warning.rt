@@ -136,7 +136,7 @@ impl Case {
     }
 }
 
-// Whether bedtools writes lines of an input as they are, but for their numbers.
+// Whether bedtools writes lines of an input as they are, except for their numbers.
 fn writes_lines(command: Command, input: Input) -> bool
     ensures { result ≡ writes_lines command input }
 {

@@ -29,7 +29,7 @@ writes_second OrigBoth = true
 writes_second Overlap = true
 writes_second shape = false
 
--- bedtools writes lines of an input as they are, but for their numbers
+-- bedtools writes lines of an input as they are, except for their numbers
 abbrev pub writes_lines : Command → Input → Bool
 writes_lines (Intersect shape rule held) First = true
 writes_lines (Intersect shape rule held) Second = writes_second shape
