@@ -1,6 +1,6 @@
 -- What looking at the inputs of a call does: files are those before and after.
 use Rattle.std.specs.Prelude.{ℕ, ◌≡◌, ⊤, true, List, Option, Some, None, Result, Ok, Err, length, nat_lt}
-use Rattle.bt_lines.specs.calls.Device.{ReadsOn}
+use Rattle.bt_lines.specs.calls.Device.{EndsAfter}
 use Rattle.bt_lines.specs.declared.device.Source.{Ghosts as Source}
 use Rattle.bt_lines.specs.declared.fault.Input.{Input}
 use Rattle.bt_lines.specs.declared.fault.Input.TheVariants.{Genome}
@@ -28,8 +28,7 @@ use Rattle.drop_in.specs.declared.why.Why.{Why}
 -- all that a source hands over, up to its end
 pub record ReadsText {S : Type 0} (source : Source S) (before : S) (text : List ℕ) : Type 0 where
   pub after : S
-  pub served : ReadsOn source.is_read before text after
-  pub told : source.end_told after ≡ true
+  pub served : EndsAfter source.is_read before text after
 
 -- A stream was surveyed, and all that it gave is kept, in order.
 abbrev pub SurveysStream : {I : Type 0} → Source I → I → ReadStream I → Result Survey Trouble → Type 0
