@@ -41,7 +41,6 @@ use bt_lines::{Input, Sink};
 use bt_tool::Plan;
 use front_files::FrontInput;
 use leaving::{Call, Cause, Heir};
-use naming::is_of_standard_input;
 use opening::Streams;
 use original::Original;
 use std::env::Env;
@@ -53,7 +52,7 @@ use system_programs::SystemPrograms;
 use versions::{is_for_any_version, is_known_version};
 use warning::Case;
 use why::Why;
-use words::{Request, option_of, value_place};
+use words::{Request, option_of, stream_word};
 
 // The status of a run whose output has no reader any more.
 const GONE: u8 = 121;
@@ -180,7 +179,9 @@ fn answer_stream(
     let Ok(names) = InputNames::of(call.rt, &request) else {
         return call.leave(pipe, cause_of(Why::NoMemory));
     };
-    let word = stream_word(call.words, &request.plan, streams.second);
+    let Some(word) = word_of(call.words, &request.plan, streams.second) else {
+        return call.leave(pipe, cause_of(Why::NoWord));
+    };
     let files = DropInFiles {
         system: SystemFiles { rt: call.rt },
         pipe,
@@ -250,16 +251,13 @@ fn copy_of(rt: &HostRuntime, name: &Option<String>) -> io::Result<String> {
     }
 }
 
-// The word of the call that the stream replaces, 0 if it is standard input by its name.
-fn stream_word(words: &[String], plan: &Plan, is_second: bool) -> usize {
+// The word of the call that the stream replaces.
+fn word_of(words: &[String], plan: &Plan, is_second: bool) -> Option<usize> {
     let (name, input) = match &plan.second {
         Some(second) if is_second => (second.as_str(), Input::Second),
         _ => (plan.first.as_str(), Input::First),
     };
-    if is_of_standard_input(name) {
-        return 0;
-    }
-    value_place(words, option_of(plan.command, input)).unwrap_or(0)
+    stream_word(words, option_of(plan.command, input), name)
 }
 
 // How a call that was run ends. If its output has no reader any more, the script ends as bedtools does then.

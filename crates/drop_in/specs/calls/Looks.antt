@@ -62,7 +62,7 @@ module _ {I : Type 0} (source : Source I) where
     pub read : I
     pub trouble : Trouble
     pub leaves : LeavesText source file.for_survey read trouble
-    pub because : why ≡ file_why input trouble
+    pub because : why ≡ file_why input trouble (source.has_failed read)
 
   -- an input, if it's a file
   abbrev pub SeesIfFile : FileOrStream (OpenedFile I) → FileOrStream (Seen I) → Type 0
@@ -104,7 +104,7 @@ module _ {F I O : Type 0} (files : Files F I O) (source : Source I) where
         → LeavesStream before name input room left after
     by_text : (opened : I) (stream : ReadStream I) (trouble : Trouble) → left.stream ≡ Some stream
         → files.opens before name opened after → SurveysStream source opened stream (Err trouble)
-        → left.why ≡ stream_why input trouble (nat_lt room (length stream.kept.items))
+        → left.why ≡ stream_why input trouble (nat_lt room (length stream.kept.items)) (source.has_failed stream.source)
         → LeavesStream before name input room left after
 
   -- an input is looked at in the end: a stream is read now, if it is one
