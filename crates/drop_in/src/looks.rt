@@ -1,10 +1,12 @@
 //! What is in the inputs of a call, and what its run reads of them.
 
-ghost use Rattle.std.specs.Prelude.{IfErr, IfOk};
-ghost use Rattle.drop_in.specs.calls.Looks.{LeavesFileAt, LeavesStreamAt, SeesFile, SeesStream, SurveysStream};
+ghost use Rattle.std.specs.Prelude.{◌≡◌, IfErr, IfOk};
+ghost use Rattle.drop_in.specs.calls.Looks.{LeavesFile, LeavesStream, SeesFile, SeesStream, SurveysStream};
+ghost use Rattle.drop_in.specs.calls.Whys.{file_why, stream_why, text_why};
 
+use crate::opening::{OpenedFile, open};
 use crate::why::Why;
-use bt_files::{Files, Unopened};
+use bt_files::Files;
 use bt_front::{Keeping, OddLine, Oddity, Survey, Trouble};
 use bt_lines::{Fault, Input, Kind, Source};
 use std::alloc::Global;
@@ -40,37 +42,33 @@ pub struct Seen<I> {
     pub reading: Reading<I>,
 }
 
-/// Looks at a file. It is opened twice before it is surveyed, so that the run reads what was surveyed, also if the file is
-/// removed or replaced.
-pub fn look_at_file<F: Files>(
+/// Looks at a file.
+pub fn look_at_file<I: Source + Drop>(
     alloc: Global,
-    files: &mut F,
-    name: &str,
+    file: OpenedFile<I>,
     input: Input,
-) -> Result<Seen<F::Input>, Why>
-    ensures sees { IfOk result (λ seen. SeesFile F.Files F.Input.Source files.old name.now seen files.new) }
-    ensures leaves { IfErr result (λ why. LeavesFileAt F.Files files.old name.now files.new) }
+) -> Result<Seen<I>, Why>
+    ensures sees { IfOk result (SeesFile I.Source file) }
+    ensures leaves { IfErr result (LeavesFile I.Source file input) }
 {
-    let source = match open(files, name, input) {
-        Ok(source) => source,
-        Err(why) => return Err(why),
-    };
-    let again = match open(files, name, input) {
-        Ok(again) => again,
-        Err(why) => return Err(why),
-    };
-    let (surveyed, _source) = Survey::read(alloc, source);
+    let OpenedFile {
+        for_survey,
+        for_run,
+    } = file;
+    let (surveyed, source) = Survey::read(alloc, for_survey);
     match surveyed {
         Ok(survey) => Ok(Seen {
             survey,
-            reading: Reading::File(again),
+            reading: Reading::File(for_run),
         }),
-        Err(trouble) => Err(file_why(input, trouble)),
+        Err(trouble) => Err(file_why(input, trouble, source.failed())),
     }
 }
 
-// Why a file is left.
-fn file_why(input: Input, trouble: Trouble) -> Why {
+// Why a file is left, of which a read has failed or not.
+fn file_why(input: Input, trouble: Trouble, has_failed: bool) -> Why
+    ensures { result ≡ file_why input trouble has_failed }
+{
     match trouble {
         Trouble::Odd(
             OddLine {
@@ -78,6 +76,21 @@ fn file_why(input: Input, trouble: Trouble) -> Why {
                 ..
             },
         ) => Why::Zipped(input),
+        _ => text_why(input, trouble, has_failed),
+    }
+}
+
+// Why a text is left. If reading failed, and its source didn't, there was no memory.
+fn text_why(input: Input, trouble: Trouble, has_failed: bool) -> Why
+    ensures { result ≡ text_why input trouble has_failed }
+{
+    match trouble {
+        Trouble::Refused(
+            Fault {
+                kind: Kind::ReadFailed,
+                ..
+            },
+        ) if !has_failed => Why::NoMemory,
         _ => Why::Text(input, trouble),
     }
 }
@@ -91,7 +104,7 @@ pub fn look_at_stream<F: Files>(
     room: usize,
 ) -> Result<Seen<F::Input>, Left<F::Input>>
     ensures sees { IfOk result (λ seen. SeesStream F.Files F.Input.Source files.old name.now seen files.new) }
-    ensures leaves { IfErr result (λ left. LeavesStreamAt F.Files F.Input.Source files.old name.now left.stream files.new) }
+    ensures leaves { IfErr result (λ left. LeavesStream F.Files F.Input.Source files.old name.now input room left files.new) }
 {
     let source = match open(files, name, input) {
         Ok(source) => source,
@@ -104,14 +117,21 @@ pub fn look_at_stream<F: Files>(
             reading: Reading::Stream(stream),
         }),
         Err(trouble) => Err(Left {
-            why: stream_why(input, trouble, room < stream.kept.len()),
+            why: stream_why(
+                input,
+                trouble,
+                room < stream.kept.len(),
+                stream.source.failed(),
+            ),
             stream: Some(stream),
         }),
     }
 }
 
 // Why a stream is left. A long one isn't read on.
-fn stream_why(input: Input, trouble: Trouble, is_long: bool) -> Why {
+fn stream_why(input: Input, trouble: Trouble, is_long: bool, has_failed: bool) -> Why
+    ensures { result ≡ stream_why input trouble is_long has_failed }
+{
     match trouble {
         Trouble::Refused(
             Fault {
@@ -119,7 +139,7 @@ fn stream_why(input: Input, trouble: Trouble, is_long: bool) -> Why {
                 ..
             },
         ) if is_long => Why::LongStream,
-        _ => Why::Text(input, trouble),
+        _ => text_why(input, trouble, has_failed),
     }
 }
 
@@ -135,16 +155,4 @@ fn survey_stream<I: Source>(
     let (surveyed, keeping) = Survey::read(alloc, keeping);
     let (source, kept) = keeping.into_parts();
     (surveyed, ReadStream { source, kept })
-}
-
-/// Opens an input.
-pub fn open<F: Files>(files: &mut F, name: &str, input: Input) -> Result<F::Input, Why>
-    ensures opens { IfOk result (λ opened. F.opens files.old name.now opened files.new) }
-    ensures refuses { IfErr result (λ why. F.refuses files.old name.now files.new) }
-{
-    match files.open(name) {
-        Ok(source) => Ok(source),
-        Err(Unopened::NoMemory) => Err(Why::NoMemory),
-        Err(Unopened::Refused) => Err(Why::Unopened(input)),
-    }
 }

@@ -21,6 +21,7 @@ mod line;
 mod looks;
 mod marks;
 mod naming;
+mod opening;
 mod original;
 #[cfg(test)]
 mod original_tests;
@@ -28,16 +29,19 @@ mod programs;
 mod system;
 mod system_programs;
 mod versions;
+mod warning;
+#[cfg(test)]
+mod warning_tests;
 mod why;
 mod words;
 
-use answering::{Answered, Streams, answer};
+use answering::{Answered, answer};
 use bt_files::{Finished, Opened, Output, StandIns, SystemFiles};
 use bt_lines::{Input, Sink};
 use bt_tool::Plan;
 use front_files::FrontInput;
 use leaving::{Call, Cause, Heir};
-use naming::is_of_standard_input;
+use opening::Streams;
 use original::Original;
 use std::env::Env;
 use std::fs::File;
@@ -46,8 +50,9 @@ use std::{env, io};
 use system::{DropInFiles, find_original, open_pipe, room, streams_of, writes_to_pipe};
 use system_programs::SystemPrograms;
 use versions::{is_for_any_version, is_known_version};
+use warning::Case;
 use why::Why;
-use words::{Request, option_of, value_place};
+use words::{Request, option_of, stream_word};
 
 // The status of a run whose output has no reader any more.
 const GONE: u8 = 121;
@@ -103,7 +108,11 @@ fn call_words(rt: &HostRuntime) -> io::Result<Vec<String>> {
 
 // A cause that no input is.
 fn cause_of(why: Why) -> Cause<'static> {
-    Cause { why, name: "" }
+    Cause {
+        why,
+        name: "",
+        warning: None,
+    }
 }
 
 fn answer_call(call: &Call<'_>, pipe: File) -> u8 {
@@ -141,7 +150,7 @@ fn why_unknown(rt: &HostRuntime, request: &Request) -> Option<Why> {
 
 // Answers a call without a stream.
 fn answer_files(call: &Call<'_>, pipe: File, request: Request, streams: Streams) -> u8 {
-    let Ok(names) = InputNames::of(call.rt, &request.plan) else {
+    let Ok(names) = InputNames::of(call.rt, &request) else {
         return call.leave(pipe, cause_of(Why::NoMemory));
     };
     let files = DropInFiles {
@@ -152,13 +161,7 @@ fn answer_files(call: &Call<'_>, pipe: File, request: Request, streams: Streams)
     let (answered, files) = answer(call.rt.alloc(), files, request, streams, 0);
     match answered {
         Answered::Took(finished) => end(call.rt, finished),
-        Answered::Left(left) => call.leave(
-            files.pipe,
-            Cause {
-                why: left.why,
-                name: names.about(left.why),
-            },
-        ),
+        Answered::Left(left) => call.leave(files.pipe, names.cause(left.why)),
     }
 }
 
@@ -173,10 +176,12 @@ fn answer_stream(
     let Some(room) = room(call.rt) else {
         return call.leave(pipe, cause_of(Why::Room));
     };
-    let Ok(names) = InputNames::of(call.rt, &request.plan) else {
+    let Ok(names) = InputNames::of(call.rt, &request) else {
         return call.leave(pipe, cause_of(Why::NoMemory));
     };
-    let word = stream_word(call.words, &request.plan, streams.second);
+    let Some(word) = word_of(call.words, &request.plan, streams.second) else {
+        return call.leave(pipe, cause_of(Why::NoWord));
+    };
     let files = DropInFiles {
         system: SystemFiles { rt: call.rt },
         pipe,
@@ -186,10 +191,7 @@ fn answer_stream(
     match answered {
         Answered::Took(finished) => end(call.rt, finished),
         Answered::Left(left) => {
-            let cause = Cause {
-                why: left.why,
-                name: names.about(left.why),
-            };
+            let cause = names.cause(left.why);
             match left.stream {
                 Some(stream) => call.leave_stream(files.pipe, cause, Heir { path, word }, stream),
                 None => call.leave(files.pipe, cause),
@@ -198,21 +200,37 @@ fn answer_stream(
     }
 }
 
-// The names of a plan's inputs, kept beside it.
+// The names of a plan's inputs, kept beside it, and what decides what bedtools does with their lines.
 #[derive(Drop)]
 struct InputNames {
     genome: String,
     first: String,
     second: String,
+    case: Case,
 }
 
 impl InputNames {
-    fn of(rt: &HostRuntime, plan: &Plan) -> io::Result<InputNames> {
+    fn of(rt: &HostRuntime, request: &Request) -> io::Result<InputNames> {
+        let plan = &request.plan;
         Ok(InputNames {
             genome: copy_of(rt, &plan.genome)?,
             first: String::from_str(rt.alloc(), plan.first.as_str())?,
             second: copy_of(rt, &plan.second)?,
+            case: Case {
+                command: plan.command,
+                is_sorted: request.is_sorted,
+                has_genome: plan.genome.is_some(),
+            },
         })
+    }
+
+    // The cause of a call that is left.
+    fn cause(&self, why: Why) -> Cause<'_> {
+        Cause {
+            why,
+            name: self.about(why),
+            warning: self.case.warning(why),
+        }
     }
 
     // The name of the input that is the cause, or no text.
@@ -233,16 +251,13 @@ fn copy_of(rt: &HostRuntime, name: &Option<String>) -> io::Result<String> {
     }
 }
 
-// The word of the call that the stream replaces, 0 if it is standard input by its name.
-fn stream_word(words: &[String], plan: &Plan, is_second: bool) -> usize {
+// The word of the call that the stream replaces.
+fn word_of(words: &[String], plan: &Plan, is_second: bool) -> Option<usize> {
     let (name, input) = match &plan.second {
         Some(second) if is_second => (second.as_str(), Input::Second),
         _ => (plan.first.as_str(), Input::First),
     };
-    if is_of_standard_input(name) {
-        return 0;
-    }
-    value_place(words, option_of(plan.command, input)).unwrap_or(0)
+    stream_word(words, option_of(plan.command, input), name)
 }
 
 // How a call that was run ends. If its output has no reader any more, the script ends as bedtools does then.

@@ -2,9 +2,9 @@
 
 ghost use Rattle.std.specs.Prelude.{⊤};
 
-use crate::answering::Streams;
 use crate::line::Line;
 use crate::naming::is_stream_name;
+use crate::opening::Streams;
 use crate::original::Original;
 use crate::system_programs::SystemPrograms;
 use bt_files::{Files, Opened, Output, SystemFiles, Unopened};
@@ -107,6 +107,16 @@ pub fn tell(rt: &HostRuntime, text: &str) {
             if let Ok(mut file) = open_told(rt, name) {
                 let _ = file.write_all(line.as_bytes());
             }
+        }
+    }
+}
+
+/// Writes a line to standard error, unless DUNEKETTLE_WARN is 0.
+pub fn warn(rt: &HostRuntime, line: &str) {
+    match env::var(rt, "DUNEKETTLE_WARN") {
+        Ok(to) if to.as_str() == "0" => {}
+        _ => {
+            let _ = rt.stderr().write_all(line.as_bytes());
         }
     }
 }
