@@ -48,6 +48,7 @@ pub use active::held::Held;
 pub use active::held_index::HeldIndex;
 pub use active::held_list::HeldList;
 pub use bt_bed::Taken;
+pub use hits::hit::is_hit;
 pub use hits::hit_rule::HitRule;
 pub use output::shape::Shape;
 pub use sweep::{Sweep, Want};

@@ -12,10 +12,10 @@ use crate::hits::hit_rule::HitRule;
 use crate::hits::started::starts_from;
 use bt_bed::{BedRef, Rec, Strand};
 
-// Whether two records of one chromosome hit one another. Those that share no base are found by two
-// comparisons.
+/// Whether two records of one chromosome hit one another by a rule. Those that share no base are found by two
+/// comparisons.
 #[tactic(auto, unfolding(crate::specs::model::Hits::is_hit))]
-pub(crate) fn is_hit(rule: HitRule, a: &BedRef<'_>, b: &BedRef<'_>) -> bool
+pub fn is_hit(rule: HitRule, a: &BedRef<'_>, b: &BedRef<'_>) -> bool
     requires { b.now.chrom.now ≡ a.now.chrom.now }
     ensures { result ≡ is_hit rule (feature_lent a.now) (feature_lent b.now) }
 {

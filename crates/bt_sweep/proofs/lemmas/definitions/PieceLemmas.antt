@@ -42,7 +42,7 @@ module _ (order : Order) (total : IsTotal order) (p : Feature → Bool) (name : 
   first_rises : (x : Feature) (xs : List Feature) (c : Bool) → p x ≡ c → (x.chrom ≡ name → AreRisingFrom x.start (filter p xs)) → AreRising (filter p xs) → AreRising (cond c (x ∷ filter p xs) (filter p xs))
   first_rises x xs c e taken skipped = grind arith
 
-  rising_all : (xs : List Feature) → ArePlaced order (intervals_of xs) → AreRising (filter p xs)
+  pub rising_all : (xs : List Feature) → ArePlaced order (intervals_of xs) → AreRising (filter p xs)
   rising_all [] placed = tt
   rising_all (x ∷ xs) placed = first_rises x xs (p x) refl (λ ex. rising_by x xs ex placed) (rising_all xs placed.2)
 

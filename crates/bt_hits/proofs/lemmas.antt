@@ -1,0 +1,6 @@
+-- Lemmas by theme.
+pub mod Bins
+pub mod Listing
+pub mod Meeting
+pub mod Reading
+pub mod Writing

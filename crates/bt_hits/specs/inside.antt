@@ -1,0 +1,4 @@
+-- Words of contracts inside of the crate.
+pub mod Meeting
+pub mod Reading
+pub mod Writing
