@@ -14,7 +14,8 @@ const NEXT: u64 = 8;
 
 // The level of the smallest bin that has all of a record, or how many levels there are if none has.
 pub(crate) fn level_of(rec: &Rec) -> usize
-    ensures { result ≡ level_of rec.now }
+    ensures is { result ≡ level_of rec.now }
+    ensures within { result ≤ 7 }
 {
     let bed = rec.as_bed();
     let mut first = bed.start / FIRST;

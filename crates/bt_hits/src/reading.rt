@@ -4,6 +4,8 @@ ghost use Rattle.std.specs.Prelude.{◌≡◌, IfOk, Ok, Some, true};
 ghost use Rattle.std.specs.List.{slice_get};
 ghost use Rattle.std.specs.Option.{option_copied};
 ghost use Rattle.bt_bed.specs.calls.Bed.{feature_lent};
+ghost use Rattle.bt_bed.specs.calls.Orders.{ArePlaced};
+ghost use Rattle.bt_bed.specs.model.Feature.{intervals_of};
 ghost use Rattle.bt_bed.specs.model.Good.{in_order};
 ghost use Rattle.bt_bed.specs.model.Sorted.{sorting_of};
 ghost use Rattle.bt_hits.specs.calls.Listing.{AreRecordsOf};
@@ -24,13 +26,14 @@ pub enum Unread {
     Fault,
 }
 
-/// The records of a text whose chromosomes come in an order.
+/// The records of a text, which are sorted in an order of their chromosomes. It fails if a line is at fault, or memory runs out.
 pub fn records_of<O: ChromOrder>(
     alloc: Global,
     order: &O,
     text: &[u8],
 ) -> Result<VecDeque<Rec>, Unread>
-    ensures { IfOk result (λ records. AreRecordsOf (O.order order.now) text.now records.items) }
+    ensures records { IfOk result (λ records. AreRecordsOf (O.order order.now) text.now records.items) }
+    ensures placed { IfOk result (λ records. ArePlaced (O.order order.now) (intervals_of records.items)) }
 {
     let mut records = VecDeque::new(alloc);
     let mut rest = text;

@@ -1,6 +1,6 @@
 //! The lines of one record.
 
-ghost use Rattle.std.specs.Prelude.{◌≡◌, ◌<◌, ◌∷◌, [], filter, flat_map, true, decimal};
+ghost use Rattle.std.specs.Prelude.{◌≡◌, ◌≤◌, ◌<◌, All, ◌∷◌, [], filter, flat_map, true, decimal};
 ghost use Rattle.std.specs.List.{slice_get};
 ghost use Rattle.std.specs.Option.{option_copied, option_to_list};
 ghost use Rattle.bt_lines.specs.calls.Output.{Adds, Puts};
@@ -8,11 +8,11 @@ ghost use Rattle.bt_bed.specs.calls.Bed.{feature_lent};
 ghost use Rattle.bt_bed.specs.model.BedLine.{bed_text, cut_to};
 ghost use Rattle.bt_sweep.specs.model.Hits.{shared_bases};
 ghost use Rattle.bt_sweep.specs.model.Lines.{hit_line, line_with};
-ghost use Rattle.bt_hits.specs.model.Bins.{all_levels};
+ghost use Rattle.bt_hits.specs.model.Bins.{all_levels, level_of};
 ghost use Rattle.bt_hits.specs.calls.Listing.{has_line_each};
 ghost use Rattle.bt_hits.specs.inside.Writing.{hits_by_level, is_hit_on};
 
-use crate::bins::{LEVELS, level_of};
+use crate::bins::level_of;
 use crate::listing::Listing;
 use bt_bed::{BedRef, Rec, put_bed, put_cut};
 use bt_lines::{Fault, Out, Sink, put_number};
@@ -29,10 +29,32 @@ pub(crate) fn put_levels<K: Sink>(
     ensures { Adds out.old.output (flat_map (hit_line listing.shape a.now) (hits_by_level listing.rule a.now all_levels held.now))
         result out.new.output }
 {
-    for level in 0..LEVELS + 1 {
+    for level in 0..levels_in(held) {
         put_level(listing, level, a, held, out)?;
     }
     Ok(())
+}
+
+// How many levels have all of these records.
+fn levels_in(held: &[Rec]) -> usize
+    ensures within { result ≤ 8 }
+    ensures below { All (λ b. level_of b < result) held.now }
+{
+    let mut count = 0;
+    for rec in held {
+        count = levels_with(count, rec);
+    }
+    count
+}
+
+// How many levels have a record too.
+fn levels_with(count: usize, rec: &Rec) -> usize
+    ensures least { count ≤ result }
+    ensures above { level_of rec.now < result }
+    ensures within { count ≤ 8 → result ≤ 8 }
+{
+    let above = level_of(rec) + 1;
+    if count < above { above } else { count }
 }
 
 // Puts a line for each of them that hits the record and is on this level.

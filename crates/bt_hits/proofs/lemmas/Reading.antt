@@ -5,7 +5,10 @@ use Rattle.bt_lines.specs.declared.fault.Input.{Input}
 use Rattle.bt_lines.specs.declared.fault.Kind.{Kind}
 use Rattle.bt_lines.specs.model.Lines.{lines_from, numbered, pieces, whole_text}
 use Rattle.bt_bed.specs.model.BedLine.{record_of}
-use Rattle.bt_bed.specs.model.Feature.{Feature}
+use Rattle.bt_bed.specs.model.Feature.{Feature, intervals_of}
+use Rattle.bt_bed.specs.calls.Orders.{ArePlaced, IsTotal}
+use Rattle.bt_bed.proofs.lemmas.Definitions.{placed_good}
+use Rattle.bt_lines.specs.declared.fault.Input.TheVariants.{First}
 use Rattle.bt_bed.specs.model.Good.{Good, bed_format, bed_good, good_after, good_with, in_order, items_in, line_says, locus_at, said_after}
 use Rattle.bt_bed.specs.model.Order.{Order}
 use Rattle.bt_bed.specs.model.Sorted.{Locus, Sorting, sorting_of}
@@ -88,6 +91,10 @@ text_good order text rs e = record {
   items = λ input. (pieces_good (sorting_of order) input 1 None (pieces 10 text) rs e).items;
   faultless = λ input. grind (arith, ((pieces_good (sorting_of order) input 1 None (pieces 10 text) rs e).faultless));
 }
+
+-- they are sorted
+pub text_placed : (order : Order) → IsTotal order → (text : List ℕ) (rs : List Feature) → AreRecordsOf order text rs → ArePlaced order (intervals_of rs)
+text_placed order total text rs are = subst (λ (l : List Feature). ArePlaced order (intervals_of l)) (are.items First) (placed_good First order (whole_text text) total)
 
 -- the first piece of a text
 pub piece_first : (rest : List ℕ) (count : ℕ) → IsBefore 10 rest count → count < length rest → pieces 10 rest ≡ take count rest ∷ pieces 10 (drop (count + 1) rest)

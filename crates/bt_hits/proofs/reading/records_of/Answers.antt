@@ -1,12 +1,14 @@
 use Rattle.bt_lines.proofs.Std.{◌≡◌, ℕ, ◌+◌, ◌-◌, ◌∙◌, [], ◌∷◌, List, None, Some, sym, ap, arith, append-nil, drop, length, length-drop, strip_last, subst, take, take_all}
 use Rattle.bt_lines.specs.model.Lines.{pieces}
 use Rattle.bt_bed.specs.model.Sorted.{sorting_of}
+use Rattle.bt_hits.specs.calls.Listing.{AreRecordsOf}
 use Rattle.bt_hits.specs.inside.Reading.{AddsLine, records_in}
-use Rattle.bt_hits.proofs.lemmas.Reading.{piece_first, piece_last, piece_read, records_after, text_good}
+use Rattle.bt_hits.proofs.lemmas.Reading.{piece_first, piece_last, piece_read, records_after, text_good, text_placed}
+use Rattle.bt_hits.proofs.reading.records_of.Given.{Over}
 use Rattle.bt_hits.proofs.reading.records_of.Goals as goal
 
-pub returns-then-count-rest : goal.returns-then-count-rest
-returns-then-count-rest g c =
+all_read : (g : Over) (c : goal.Then-count-rest g) → AreRecordsOf (g.O.ChromOrder.order c.args.order.now) c.args.text.now c.read_line.new.records.items
+all_read g c =
     let order = g.O.ChromOrder.order c.args.order.now in
     let before = c.loop-records.records.items in
     let after = c.read_line.new.records.items in
@@ -20,6 +22,15 @@ returns-then-count-rest g c =
     ∙ piece_read (sorting_of order) before after (take count rest) [] adds
     ∙ ap Some (append-nil after) in
     text_good order c.args.text.now after is
+
+pub returns-then-count-rest : goal.returns-then-count-rest
+returns-then-count-rest g c =
+    let order = g.O.ChromOrder.order c.args.order.now in
+    let records = all_read g c in
+    record {
+      records = records;
+      placed = text_placed order (g.met.O.ChromOrder.total c.args.order.now) c.args.text.now c.read_line.new.records.items records;
+    }
 
 pub loop-records-preserved : goal.loop-records-preserved
 loop-records-preserved g c =
