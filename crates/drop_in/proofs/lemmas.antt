@@ -1,5 +1,4 @@
 -- Lemmas by theme.
-pub mod CallLemmas
 pub mod GenomeLemmas
 pub mod KeptLemmas
 pub mod MarkLemmas

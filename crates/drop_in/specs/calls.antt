@@ -1,10 +1,13 @@
 -- What calls do, as contracts say it.
+pub mod Answer
 pub mod Call
 pub mod Inputs
 pub mod Line
 pub mod Looks
 pub mod Marks
 pub mod Names
+pub mod Opening
 pub mod Original
 pub mod Versions
+pub mod Whys
 pub mod Words

@@ -2,8 +2,9 @@
 
 ghost use Rattle.std.specs.Prelude.{⊤};
 
-use crate::answering::{Answered, Streams, answer};
+use crate::answering::{Answered, answer};
 use crate::looks::Left;
+use crate::opening::Streams;
 use crate::why::Why;
 use crate::words::Request;
 use bt_files::{Files, Unopened};

@@ -1,31 +1,27 @@
 //! What becomes of a call.
 
-ghost use Rattle.std.specs.Prelude.{◌≡◌, IfErr, IfNone, IfOk, Some, true, is_some, option_copied, option_map, string_bytes};
+ghost use Rattle.std.specs.Prelude.{◌≡◌, IfErr, IfNone, IfOk, IfSome, is_some, option_copied, option_map, string_bytes, true};
 ghost use Rattle.bt_tool.specs.calls.Plan.{plan_seen};
 ghost use Rattle.bt_front.specs.model.Verdict.{has_survey, names_seen, second_names, verdict_of};
 ghost use Rattle.bt_front.specs.model.Fitting.{common_names, order_text as text_of_order};
-ghost use Rattle.drop_in.specs.calls.Call.{Answers, AreReady, AreRunnable, IsOrder, IsTaken, LeavesAt, LeavesBoth, LeavesCall, LeavesInputs, Looks, Reads, RunsInputs, SeesBoth, SeesInputs, entries_if, plan_by, reading_if, stream_among, survey_if};
-ghost use Rattle.drop_in.specs.calls.Looks.{OnlyOpens, ReadsGenomeIf, Sees};
+ghost use Rattle.drop_in.specs.calls.Answer.{Answers, LeavesCall, LeavesFiles, LeavesOpened, LeavesStreams, Looks, LooksAtOpened, SeesInputs};
+ghost use Rattle.drop_in.specs.calls.Call.{AreReady, AreRunnable, IsLeftByVerdict, IsOrder, IsTaken, Reads, RunsInputs, entries_if, plan_by, reading_if, stream_among, survey_if};
+ghost use Rattle.drop_in.specs.calls.Looks.{LeavesIfFile, LeavesInput, LeavesInputIf, LeavesOther, ReadsGenomeIf, SeesFiles, SeesIfFile, SeesInput, SeesInputIf, SeesOther};
+ghost use Rattle.drop_in.specs.calls.Whys.{IsWhyOfOrder, IsWhyOfScript, IsWhyOfVerdict};
+ghost use Rattle.bt_lines.specs.declared.fault.Input.TheVariants.{Second};
 
 use crate::front_files::{FrontFiles, FrontInput};
 use crate::genome_file::{GenomeFile, read_genome};
 use crate::looks::{Left, ReadStream, Reading, Seen, look_at_file, look_at_stream};
+use crate::opening::{CallInputs, FileOrStream, OpenedFile, OpenedFiles, Streams, open_all};
 use crate::why::Why;
 use crate::words::Request;
 use bt_bed::Genome;
 use bt_files::{Files, Finished, carry_out};
 use bt_front::{Asked, InOrderOf, Reason, Survey, common_order};
 use bt_lines::{Input, Source};
-use bt_tool::{Command, Plan};
+use bt_tool::Plan;
 use std::alloc::Global;
-
-/// Which inputs of a call are streams.
-#[derive(Clone, Copy, Debug, PartialEq, Eq)]
-pub struct Streams {
-    pub genome: bool,
-    pub first: bool,
-    pub second: bool,
-}
 
 /// What became of a call.
 #[derive(Drop)]
@@ -53,7 +49,7 @@ pub fn answer<I: Source + Drop, F: Files<Input = I>>(
     streams: Streams,
     room: usize,
 ) -> (Answered<I, F::Output>, F)
-    ensures { Answers F.Files I.Source F.Output.Sink files request streams result.0 result.1 }
+    ensures { Answers F.Files I.Source F.Output.Sink files request streams room result.0 result.1 }
 {
     let mut files = files;
     match look(alloc, &mut files, &request, streams, room) {
@@ -138,43 +134,25 @@ fn look<F: Files>(
     room: usize,
 ) -> Result<Inputs<F::Input>, Left<F::Input>>
     ensures looks { IfOk result (λ inputs. Looks F.Files F.Input.Source files.old request.now streams inputs files.new) }
-    ensures leaves { IfErr result (λ left. LeavesCall F.Files F.Input.Source files.old request.now streams left.stream files.new) }
+    ensures leaves { IfErr result (λ left. LeavesCall F.Files F.Input.Source files.old request.now streams room left files.new) }
 {
-    match shell_why(request, streams) {
-        Some(why) => Err(Left { why, stream: None }),
-        None => look_at_inputs(alloc, files, request, streams, room),
+    if let Some(why) = script_why(request, streams) {
+        return Err(Left { why, stream: None });
     }
-}
-
-// Looks at the inputs of a call that may be run here.
-fn look_at_inputs<F: Files>(
-    alloc: Global,
-    files: &mut F,
-    request: &Request,
-    streams: Streams,
-    room: usize,
-) -> Result<Inputs<F::Input>, Left<F::Input>>
-    requires { AreRunnable request.now streams }
-    ensures looks { IfOk result (λ inputs. Looks F.Files F.Input.Source files.old request.now streams inputs files.new) }
-    ensures leaves { IfErr result (λ left. LeavesCall F.Files F.Input.Source files.old request.now streams left.stream files.new) }
-{
-    let genome = match genome_of(alloc, files, &request.plan) {
-        Ok(genome) => genome,
+    let opened = match open_all(files, &request.plan, streams) {
+        Ok(opened) => opened,
         Err(why) => return Err(Left { why, stream: None }),
     };
-    let (first, second) = match look_at_all(alloc, files, &request.plan, streams, room) {
-        Ok(seen) => seen,
-        Err(left) => return Err(left),
-    };
-    match judge(alloc, &request.asked(), genome, first, second) {
+    match look_at_opened(alloc, files, request, opened, room) {
         Ok(inputs) => Ok(inputs),
         Err(left) => Err(left),
     }
 }
 
-// Why the shell takes the call.
-fn shell_why(request: &Request, streams: Streams) -> Option<Why>
-    ensures { IfNone result (AreRunnable request.now streams) }
+// Why the script takes the call.
+fn script_why(request: &Request, streams: Streams) -> Option<Why>
+    ensures runnable { IfNone result (AreRunnable request.now streams) }
+    ensures why { IfSome result (IsWhyOfScript request.now streams) }
 {
     if request.orders_hits() {
         Some(Why::Hits)
@@ -187,13 +165,43 @@ fn shell_why(request: &Request, streams: Streams) -> Option<Why>
     }
 }
 
-// Reads the genome file, if the plan has one.
-fn genome_of<F: Files>(alloc: Global, files: &mut F, plan: &Plan) -> Result<Option<GenomeFile>, Why>
-    ensures reads { IfOk result (λ file. ReadsGenomeIf F.Files F.Input.Source files.old (option_map string_bytes plan.now.genome) file files.new) }
-    ensures leaves { IfErr result (λ why. OnlyOpens F.Files (λ name. option_map string_bytes plan.now.genome ≡ Some name) files.old files.new) }
+// Looks at the files that were opened, then at the stream, and gives the inputs if the verdict takes the call.
+fn look_at_opened<F: Files>(
+    alloc: Global,
+    files: &mut F,
+    request: &Request,
+    opened: OpenedFiles<F::Input>,
+    room: usize,
+) -> Result<Inputs<F::Input>, Left<F::Input>>
+    ensures looks { IfOk result (λ inputs. LooksAtOpened F.Files F.Input.Source files.old request.now opened inputs files.new) }
+    ensures leaves { IfErr result (λ left. LeavesOpened F.Files F.Input.Source files.old request.now opened room left files.new) }
 {
-    match &plan.genome {
-        Some(name) => match read_genome(alloc, files, name.as_str()) {
+    let OpenedFiles { genome, inputs } = opened;
+    let genome = match genome_of(alloc, genome) {
+        Ok(genome) => genome,
+        Err(why) => return Err(Left { why, stream: None }),
+    };
+    let looked = match look_at_files(alloc, inputs) {
+        Ok(looked) => looked,
+        Err(why) => return Err(Left { why, stream: None }),
+    };
+    let (first, second) = match look_at_stream_of(alloc, files, &request.plan, looked, room) {
+        Ok(seen) => seen,
+        Err(left) => return Err(left),
+    };
+    match judge(alloc, &request.asked(), genome, first, second) {
+        Ok(inputs) => Ok(inputs),
+        Err(left) => Err(left),
+    }
+}
+
+// Reads the genome file, if the call has one.
+fn genome_of<I: Source + Drop>(alloc: Global, opened: Option<I>) -> Result<Option<GenomeFile>, Why>
+    ensures reads { IfOk result (ReadsGenomeIf I.Source opened) }
+    ensures some { IfErr result (λ why. is_some opened ≡ true) }
+{
+    match opened {
+        Some(source) => match read_genome(alloc, source) {
             Ok(file) => Ok(Some(file)),
             Err(why) => Err(why),
         },
@@ -201,45 +209,110 @@ fn genome_of<F: Files>(alloc: Global, files: &mut F, plan: &Plan) -> Result<Opti
     }
 }
 
-// Looks at the inputs, a stream last.
-fn look_at_all<F: Files>(
+// Looks at the inputs that are files.
+fn look_at_files<I: Source + Drop>(
+    alloc: Global,
+    inputs: CallInputs<OpenedFile<I>>,
+) -> Result<CallInputs<Seen<I>>, Why>
+    ensures sees { IfOk result (SeesFiles I.Source inputs) }
+    ensures leaves { IfErr result (LeavesFiles I.Source inputs) }
+{
+    let CallInputs { first, second } = inputs;
+    let first = match look_if_file(alloc, first, Input::First) {
+        Ok(first) => first,
+        Err(why) => return Err(why),
+    };
+    match look_at_other(alloc, second) {
+        Ok(second) => Ok(CallInputs { first, second }),
+        Err(why) => Err(why),
+    }
+}
+
+// Looks at the second input, if there is one and it's a file.
+fn look_at_other<I: Source + Drop>(
+    alloc: Global,
+    opened: Option<FileOrStream<OpenedFile<I>>>,
+) -> Result<Option<FileOrStream<Seen<I>>>, Why>
+    ensures sees { IfOk result (SeesOther I.Source opened) }
+    ensures leaves { IfErr result (LeavesOther I.Source opened Second) }
+{
+    match opened {
+        Some(opened) => match look_if_file(alloc, opened, Input::Second) {
+            Ok(seen) => Ok(Some(seen)),
+            Err(why) => Err(why),
+        },
+        None => Ok(None),
+    }
+}
+
+// Looks at an input if it's a file.
+fn look_if_file<I: Source + Drop>(
+    alloc: Global,
+    opened: FileOrStream<OpenedFile<I>>,
+    input: Input,
+) -> Result<FileOrStream<Seen<I>>, Why>
+    ensures sees { IfOk result (SeesIfFile I.Source opened) }
+    ensures leaves { IfErr result (LeavesIfFile I.Source opened input) }
+{
+    match opened {
+        FileOrStream::File(file) => match look_at_file(alloc, file, input) {
+            Ok(seen) => Ok(FileOrStream::File(seen)),
+            Err(why) => Err(why),
+        },
+        FileOrStream::Stream => Ok(FileOrStream::Stream),
+    }
+}
+
+// Looks at the stream of a call, if it has one, once its files were looked at.
+fn look_at_stream_of<F: Files>(
     alloc: Global,
     files: &mut F,
     plan: &Plan,
-    streams: Streams,
+    looked: CallInputs<Seen<F::Input>>,
     room: usize,
 ) -> Result<(Seen<F::Input>, Option<Seen<F::Input>>), Left<F::Input>>
-    ensures sees { IfOk result (λ seen. SeesInputs F.Files F.Input.Source streams.first streams.second files.old (string_bytes plan.now.first)
-        (option_map string_bytes plan.now.second) seen.0 seen.1 files.new) }
-    ensures leaves { IfErr result (λ left. LeavesInputs F.Files F.Input.Source streams.first streams.second files.old (string_bytes plan.now.first)
-        (option_map string_bytes plan.now.second) left.stream files.new) }
+    ensures sees { IfOk result (λ seen. SeesInputs F.Files F.Input.Source files.old (plan_seen plan.now).names looked seen.0 seen.1 files.new) }
+    ensures leaves { IfErr result (λ left. LeavesStreams F.Files F.Input.Source files.old (plan_seen plan.now).names looked room left files.new) }
 {
-    let first = Named {
+    let CallInputs { first, second } = looked;
+    let named = Named {
         name: plan.first.as_str(),
         input: Input::First,
-        is_stream: streams.first,
     };
-    let Some(second) = &plan.second else {
-        return match look_at(alloc, files, first, room) {
-            Ok(first) => Ok((first, None)),
-            Err(left) => Err(left),
-        };
+    let first = match look_if_stream(alloc, files, first, named, room) {
+        Ok(first) => first,
+        Err(left) => return Err(left),
     };
-    let second = Named {
-        name: second.as_str(),
+    match look_at_last(alloc, files, second, &plan.second, room) {
+        Ok(second) => Ok((first, second)),
+        Err(left) => Err(left),
+    }
+}
+
+// Looks at the second input, if there is one and it's a stream.
+fn look_at_last<F: Files>(
+    alloc: Global,
+    files: &mut F,
+    looked: Option<FileOrStream<Seen<F::Input>>>,
+    name: &Option<String>,
+    room: usize,
+) -> Result<Option<Seen<F::Input>>, Left<F::Input>>
+    ensures sees { IfOk result (λ seen. SeesInputIf F.Files F.Input.Source files.old looked (option_map string_bytes name.now) seen files.new) }
+    ensures leaves { IfErr result (λ left. LeavesInputIf F.Files F.Input.Source files.old looked (option_map string_bytes name.now) Second room left files.new) }
+{
+    let Some(looked) = looked else {
+        return Ok(None);
+    };
+    let Some(name) = name else {
+        return Ok(None);
+    };
+    let named = Named {
+        name: name.as_str(),
         input: Input::Second,
-        is_stream: streams.second,
     };
-    if streams.first {
-        match look_at_both(alloc, files, second, first, room) {
-            Ok((second, first)) => Ok((first, Some(second))),
-            Err(left) => Err(left),
-        }
-    } else {
-        match look_at_both(alloc, files, first, second, room) {
-            Ok((first, second)) => Ok((first, Some(second))),
-            Err(left) => Err(left),
-        }
+    match look_if_stream(alloc, files, looked, named, room) {
+        Ok(seen) => Ok(Some(seen)),
+        Err(left) => Err(left),
     }
 }
 
@@ -248,50 +321,23 @@ fn look_at_all<F: Files>(
 struct Named<'a> {
     name: &'a str,
     input: Input,
-    is_stream: bool,
 }
 
-// Looks at a file, and then at another input.
-fn look_at_both<F: Files>(
+// Looks at an input if it's a stream; a file was looked at before.
+fn look_if_stream<F: Files>(
     alloc: Global,
     files: &mut F,
-    one: Named<'_>,
-    other: Named<'_>,
-    room: usize,
-) -> Result<(Seen<F::Input>, Seen<F::Input>), Left<F::Input>>
-    ensures sees { IfOk result (λ seen. SeesBoth F.Files F.Input.Source other.entry.is_stream files.old one.entry.name.now
-        other.entry.name.now
-        seen.0 seen.1 files.new) }
-    ensures leaves { IfErr result (λ left. LeavesBoth F.Files F.Input.Source other.entry.is_stream files.old one.entry.name.now
-        other.entry.name.now left.stream files.new) }
-{
-    let first = match look_at_file(alloc, files, one.name, one.input) {
-        Ok(seen) => seen,
-        Err(why) => return Err(Left { why, stream: None }),
-    };
-    match look_at(alloc, files, other, room) {
-        Ok(second) => Ok((first, second)),
-        Err(left) => Err(left),
-    }
-}
-
-// Looks at an input.
-fn look_at<F: Files>(
-    alloc: Global,
-    files: &mut F,
+    looked: FileOrStream<Seen<F::Input>>,
     named: Named<'_>,
     room: usize,
 ) -> Result<Seen<F::Input>, Left<F::Input>>
-    ensures sees { IfOk result (λ seen. Sees F.Files F.Input.Source named.entry.is_stream files.old named.entry.name.now seen files.new) }
-    ensures leaves { IfErr result (λ left. LeavesAt F.Files F.Input.Source named.entry.is_stream files.old named.entry.name.now
-        left.stream files.new) }
+    ensures sees { IfOk result (λ seen. SeesInput F.Files F.Input.Source files.old looked named.entry.name.now seen files.new) }
+    ensures leaves { IfErr result (λ left. LeavesInput F.Files F.Input.Source files.old looked named.entry.name.now named.entry.input room
+        left files.new) }
 {
-    if named.is_stream {
-        return look_at_stream(alloc, files, named.name, named.input, room);
-    }
-    match look_at_file(alloc, files, named.name, named.input) {
-        Ok(seen) => Ok(seen),
-        Err(why) => Err(Left { why, stream: None }),
+    match looked {
+        FileOrStream::File(seen) => Ok(seen),
+        FileOrStream::Stream => look_at_stream(alloc, files, named.name, named.input, room),
     }
 }
 
@@ -304,7 +350,7 @@ fn judge<I: Drop>(
     second: Option<Seen<I>>,
 ) -> Result<Inputs<I>, Left<I>>
     ensures takes { IfOk result (IsTaken asked.now genome first second) }
-    ensures leaves { IfErr result (λ left. left.stream ≡ stream_among first.reading (reading_if second)) }
+    ensures leaves { IfErr result (IsLeftByVerdict asked.now genome first second) }
 {
     match order_text(alloc, asked, genome, &first, &second) {
         Ok(text) => Ok(Inputs {
@@ -351,7 +397,8 @@ fn order_text<I>(
     first: &Seen<I>,
     second: &Option<Seen<I>>,
 ) -> Result<Option<Vec<u8>>, Why>
-    ensures { IfOk result (IsOrder asked.now genome first.now.survey (survey_if second.now)) }
+    ensures takes { IfOk result (IsOrder asked.now genome first.now.survey (survey_if second.now)) }
+    ensures leaves { IfErr result (IsWhyOfVerdict asked.now first.now.survey (survey_if second.now) (entries_if genome)) }
 {
     let others = match second {
         Some(seen) => Some(&seen.survey),
@@ -389,8 +436,9 @@ fn found_order(
     first: &Survey,
     second: Option<&Survey>,
 ) -> Result<Option<Vec<u8>>, Why>
-    ensures { IfOk result (λ text. option_map (λ text. text.items) text
+    ensures finds { IfOk result (λ text. option_map (λ text. text.items) text
         ≡ option_map text_of_order (common_names (names_seen first.now) (second_names (option_copied second.entry)))) }
+    ensures why { IfErr result (IsWhyOfOrder first.now (option_copied second.entry)) }
 {
     let others = match second {
         Some(survey) => Some(&survey.chromosomes),

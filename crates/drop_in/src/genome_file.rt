@@ -1,16 +1,14 @@
 //! A genome file, which is read once: for the verdict and for the run.
 
-ghost use Rattle.std.specs.Prelude.{◌≡◌, IfErr, IfOk, IfSome, Ok, true};
+ghost use Rattle.std.specs.Prelude.{◌≡◌, IfOk, IfSome, Ok, true};
 ghost use Rattle.bt_lines.specs.declared.fault.Input.TheVariants.{Genome as OfGenome};
 ghost use Rattle.bt_lines.specs.model.Lines.{whole_text};
 ghost use Rattle.bt_bed.specs.model.Genome.{genome_handed};
 ghost use Rattle.bt_bed.specs.calls.GenomeTable.{entries};
-ghost use Rattle.drop_in.specs.calls.Looks.{LeavesFileAt, ReadsGenomeFile, ReadsText};
+ghost use Rattle.drop_in.specs.calls.Looks.{ReadsGenome, ReadsText};
 
-use crate::looks::open;
 use crate::why::Why;
 use bt_bed::Genome;
-use bt_files::Files;
 use bt_front::Keeping;
 use bt_lines::{Fault, FromRead, Input, LineReader, Source};
 use std::alloc::Global;
@@ -25,15 +23,10 @@ pub struct GenomeFile {
     pub text: Vec<u8>,
 }
 
-/// Reads a genome file.
-pub fn read_genome<F: Files>(alloc: Global, files: &mut F, name: &str) -> Result<GenomeFile, Why>
-    ensures reads { IfOk result (λ file. ReadsGenomeFile F.Files F.Input.Source files.old name.now file files.new) }
-    ensures leaves { IfErr result (λ why. LeavesFileAt F.Files files.old name.now files.new) }
+/// Reads a genome file that was opened.
+pub fn read_genome<I: Source + Drop>(alloc: Global, source: I) -> Result<GenomeFile, Why>
+    ensures { IfOk result (ReadsGenome I.Source source) }
 {
-    let source = match open(files, name, Input::Genome) {
-        Ok(source) => source,
-        Err(why) => return Err(why),
-    };
     let Some(text) = read_text(alloc, source) else {
         return Err(Why::Unopened(Input::Genome));
     };

@@ -1,10 +1,12 @@
 //! What is in the inputs of a call, and what its run reads of them.
 
-ghost use Rattle.std.specs.Prelude.{IfErr, IfOk};
-ghost use Rattle.drop_in.specs.calls.Looks.{LeavesFileAt, LeavesStreamAt, SeesFile, SeesStream, SurveysStream};
+ghost use Rattle.std.specs.Prelude.{◌≡◌, IfErr, IfOk};
+ghost use Rattle.drop_in.specs.calls.Looks.{LeavesFile, LeavesStream, SeesFile, SeesStream, SurveysStream};
+ghost use Rattle.drop_in.specs.calls.Whys.{file_why, stream_why};
 
+use crate::opening::{OpenedFile, open};
 use crate::why::Why;
-use bt_files::{Files, Unopened};
+use bt_files::Files;
 use bt_front::{Keeping, OddLine, Oddity, Survey, Trouble};
 use bt_lines::{Fault, Input, Kind, Source};
 use std::alloc::Global;
@@ -40,37 +42,33 @@ pub struct Seen<I> {
     pub reading: Reading<I>,
 }
 
-/// Looks at a file. It is opened twice before it is surveyed, so that the run reads what was surveyed, also if the file is
-/// removed or replaced.
-pub fn look_at_file<F: Files>(
+/// Looks at a file.
+pub fn look_at_file<I: Source + Drop>(
     alloc: Global,
-    files: &mut F,
-    name: &str,
+    file: OpenedFile<I>,
     input: Input,
-) -> Result<Seen<F::Input>, Why>
-    ensures sees { IfOk result (λ seen. SeesFile F.Files F.Input.Source files.old name.now seen files.new) }
-    ensures leaves { IfErr result (λ why. LeavesFileAt F.Files files.old name.now files.new) }
+) -> Result<Seen<I>, Why>
+    ensures sees { IfOk result (SeesFile I.Source file) }
+    ensures leaves { IfErr result (LeavesFile I.Source file input) }
 {
-    let source = match open(files, name, input) {
-        Ok(source) => source,
-        Err(why) => return Err(why),
-    };
-    let again = match open(files, name, input) {
-        Ok(again) => again,
-        Err(why) => return Err(why),
-    };
-    let (surveyed, _source) = Survey::read(alloc, source);
+    let OpenedFile {
+        for_survey,
+        for_run,
+    } = file;
+    let (surveyed, _source) = Survey::read(alloc, for_survey);
     match surveyed {
         Ok(survey) => Ok(Seen {
             survey,
-            reading: Reading::File(again),
+            reading: Reading::File(for_run),
         }),
         Err(trouble) => Err(file_why(input, trouble)),
     }
 }
 
 // Why a file is left.
-fn file_why(input: Input, trouble: Trouble) -> Why {
+fn file_why(input: Input, trouble: Trouble) -> Why
+    ensures { result ≡ file_why input trouble }
+{
     match trouble {
         Trouble::Odd(
             OddLine {
@@ -91,7 +89,7 @@ pub fn look_at_stream<F: Files>(
     room: usize,
 ) -> Result<Seen<F::Input>, Left<F::Input>>
     ensures sees { IfOk result (λ seen. SeesStream F.Files F.Input.Source files.old name.now seen files.new) }
-    ensures leaves { IfErr result (λ left. LeavesStreamAt F.Files F.Input.Source files.old name.now left.stream files.new) }
+    ensures leaves { IfErr result (λ left. LeavesStream F.Files F.Input.Source files.old name.now input room left files.new) }
 {
     let source = match open(files, name, input) {
         Ok(source) => source,
@@ -111,7 +109,9 @@ pub fn look_at_stream<F: Files>(
 }
 
 // Why a stream is left. A long one isn't read on.
-fn stream_why(input: Input, trouble: Trouble, is_long: bool) -> Why {
+fn stream_why(input: Input, trouble: Trouble, is_long: bool) -> Why
+    ensures { result ≡ stream_why input trouble is_long }
+{
     match trouble {
         Trouble::Refused(
             Fault {
@@ -135,16 +135,4 @@ fn survey_stream<I: Source>(
     let (surveyed, keeping) = Survey::read(alloc, keeping);
     let (source, kept) = keeping.into_parts();
     (surveyed, ReadStream { source, kept })
-}
-
-/// Opens an input.
-pub fn open<F: Files>(files: &mut F, name: &str, input: Input) -> Result<F::Input, Why>
-    ensures opens { IfOk result (λ opened. F.opens files.old name.now opened files.new) }
-    ensures refuses { IfErr result (λ why. F.refuses files.old name.now files.new) }
-{
-    match files.open(name) {
-        Ok(source) => Ok(source),
-        Err(Unopened::NoMemory) => Err(Why::NoMemory),
-        Err(Unopened::Refused) => Err(Why::Unopened(input)),
-    }
 }

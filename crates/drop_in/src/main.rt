@@ -21,6 +21,7 @@ mod line;
 mod looks;
 mod marks;
 mod naming;
+mod opening;
 mod original;
 #[cfg(test)]
 mod original_tests;
@@ -31,13 +32,14 @@ mod versions;
 mod why;
 mod words;
 
-use answering::{Answered, Streams, answer};
+use answering::{Answered, answer};
 use bt_files::{Finished, Opened, Output, StandIns, SystemFiles};
 use bt_lines::{Input, Sink};
 use bt_tool::Plan;
 use front_files::FrontInput;
 use leaving::{Call, Cause, Heir};
 use naming::is_of_standard_input;
+use opening::Streams;
 use original::Original;
 use std::env::Env;
 use std::fs::File;

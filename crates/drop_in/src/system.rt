@@ -2,9 +2,9 @@
 
 ghost use Rattle.std.specs.Prelude.{⊤};
 
-use crate::answering::Streams;
 use crate::line::Line;
 use crate::naming::is_stream_name;
+use crate::opening::Streams;
 use crate::original::Original;
 use crate::system_programs::SystemPrograms;
 use bt_files::{Files, Opened, Output, SystemFiles, Unopened};

@@ -1,12 +1,12 @@
 -- A genome file in memory is read as its whole text.
 use Rattle.std.specs.Prelude.{IfSome}
-use Rattle.bt_lines.proofs.Std.{◌≡◌, ◌∙◌, ◌++◌, ℕ, suc, Bool, List, [], None, Ok, Option, Some, ap, append-nil, false, refl, subst, sym, true}
+use Rattle.bt_lines.proofs.Std.{◌≡◌, ◌∙◌, ℕ, List, None, Ok, Option, Some, ap, false, subst, sym}
 use Rattle.bt_lines.specs.declared.device.Source.{Ghosts as Source}
 use Rattle.bt_lines.specs.declared.fault.Input.{Input}
 use Rattle.bt_lines.specs.declared.fault.Input.TheVariants.{Genome as OfGenome}
 use Rattle.bt_lines.specs.declared.reader.line_reader.LineReader.{LineReader}
 use Rattle.bt_lines.specs.calls.Reader.{EndsKnown, end_told, input_of, lines_coming, source_of}
-use Rattle.bt_lines.specs.model.Lines.{TextLine, lines_from, text_lines, whole_text}
+use Rattle.bt_lines.specs.model.Lines.{TextLine, text_lines, whole_text}
 use Rattle.bt_bed.specs.model.Genome.{genome_handed, genome_of}
 use Rattle.bt_bed.specs.calls.GenomeTable.{ReadsAll, entries}
 use Rattle.bt_bed.specs.declared.order.genome.Genome.{Genome}

@@ -8,7 +8,7 @@ use Rattle.bt_lines.specs.declared.device.Source.{Ghosts as Source}
 use Rattle.bt_lines.specs.declared.device.from_read.FromRead.{FromRead}
 use Rattle.bt_lines.specs.calls.Device.{FailsAfter, ReadsOn, begun, gave, reader_of}
 use Rattle.bt_front.specs.calls.Stream.{IsKeptRead, has_stopped, kept_of, source_of}
-use Rattle.bt_front.specs.calls.Survey.{LeavesText, ReadsSurvey, Surveys}
+use Rattle.bt_front.specs.calls.Survey.{ReadsSurvey}
 use Rattle.bt_front.specs.declared.stream.keeping.Keeping.{Keeping}
 use Rattle.bt_front.specs.declared.survey.Survey.{Survey}
 use Rattle.bt_front.specs.declared.survey.trouble.Trouble.{Trouble}

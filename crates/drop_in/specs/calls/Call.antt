@@ -1,5 +1,5 @@
 -- What becomes of a call: files are those before and after.
-use Rattle.std.specs.Prelude.{ℕ, ◌≡◌, ◌⊎◌, ◌&&◌, ⊤, Bool, true, false, not, is_some, List, [], Option, Some, None, Ok, Vec, option_map}
+use Rattle.std.specs.Prelude.{ℕ, ◌≡◌, ◌&&◌, ⊤, Bool, true, false, is_some, List, [], Option, Some, None, Ok, Vec, option_map}
 use Rattle.std.specs.declared.alloc.Global.{Global}
 use Rattle.bt_lines.specs.declared.device.Sink.{Ghosts as Sink}
 use Rattle.bt_lines.specs.declared.device.Source.{Ghosts as Source}
@@ -13,38 +13,23 @@ use Rattle.bt_front.specs.declared.verdict.reason.InOrderOf.{InOrderOf}
 use Rattle.bt_front.specs.declared.verdict.reason.InOrderOf.TheVariants.{Bytes, Found, GenomeFile as ByGenome}
 use Rattle.bt_front.specs.declared.words.Asked.{Asked}
 use Rattle.bt_front.specs.model.Fitting.{common_names, order_text}
-use Rattle.bt_front.specs.model.Verdict.{lists_hits, names_seen, second_names, verdict_of}
-use Rattle.bt_tool.specs.calls.Plan.{plan_seen}
-use Rattle.bt_tool.specs.model.Options.{Named, PlanSeen}
+use Rattle.bt_front.specs.model.Verdict.{names_seen, second_names, verdict_of}
+use Rattle.bt_tool.specs.model.Options.{PlanSeen}
 use Rattle.bt_tool.specs.model.Table.{Word}
 use Rattle.drop_in.specs.calls.Inputs.{HasText, files_of, front_files, front_source}
-use Rattle.drop_in.specs.calls.Looks.{IsReadFrom, LeavesFileAt, LeavesStreamAt, OnlyOpens, ReadsGenomeIf, Sees, SeesFile}
-use Rattle.drop_in.specs.declared.answering.Answered.{Answered}
-use Rattle.drop_in.specs.declared.answering.Answered.TheVariants.{Left, Took}
+use Rattle.drop_in.specs.calls.Whys.{IsWhyOfVerdict, orders_hits}
 use Rattle.drop_in.specs.declared.answering.Inputs.{Inputs}
-use Rattle.drop_in.specs.declared.answering.Streams.{Streams}
 use Rattle.drop_in.specs.declared.front_files.FrontFiles.{FrontFiles}
 use Rattle.drop_in.specs.declared.front_files.FrontInput.{FrontInput}
 use Rattle.drop_in.specs.declared.front_files.FrontInput.TheVariants.{Opened}
 use Rattle.drop_in.specs.declared.genome_file.GenomeFile.{GenomeFile}
+use Rattle.drop_in.specs.declared.looks.Left.{Left}
 use Rattle.drop_in.specs.declared.looks.ReadStream.{ReadStream}
 use Rattle.drop_in.specs.declared.looks.Reading.{Reading}
 use Rattle.drop_in.specs.declared.looks.Reading.TheVariants.{File, Stream}
 use Rattle.drop_in.specs.declared.looks.Seen.{Seen}
+use Rattle.drop_in.specs.declared.opening.Streams.{Streams}
 use Rattle.drop_in.specs.declared.words.Request.{Request}
-
--- Names.
-
--- it is the name of an input that is a file
-abbrev pub IsFileOf : Named → Streams → Word → Type 0
-IsFileOf names streams name =
-    ((streams.genome ≡ false) × (names.genome ≡ Some name))
-    ⊎ (((streams.first ≡ false) × (name ≡ names.first)) ⊎ ((streams.second ≡ false) × (names.second ≡ Some name)))
-
--- it is the name of an input that is a stream
-abbrev pub IsStreamOf : Named → Streams → Word → Type 0
-IsStreamOf names streams name =
-    ((streams.first ≡ true) × (name ≡ names.first)) ⊎ ((streams.second ≡ true) × (names.second ≡ Some name))
 
 -- what the words of a request ask for
 abbrev pub asked_by : Request → Asked
@@ -53,7 +38,7 @@ asked_by request = record { command = request.plan.command; is_sorted = request.
 -- The call may be run here: no hits have to be put in order, and one of its inputs is a stream at most, which isn't the
 -- genome file.
 pub record AreRunnable (request : Request) (streams : Streams) : Type 0 where
-  pub hits : lists_hits request.plan.command && not request.is_sorted ≡ false
+  pub hits : orders_hits request ≡ false
   pub genome : streams.genome ≡ false
   pub one : streams.first && streams.second ≡ false
 
@@ -97,6 +82,12 @@ pub record IsTaken {I : Type 0} (asked : Asked) (given : Option GenomeFile) (fir
   pub order : IsOrder asked given first.survey (survey_if second) inputs.genome
   pub first_is : inputs.first ≡ first.reading
   pub second_is : inputs.second ≡ reading_if second
+
+-- or it leaves the call, whose stream is kept
+pub record IsLeftByVerdict {I : Type 0} (asked : Asked) (given : Option GenomeFile) (first : Seen I) (second : Option (Seen I))
+    (left : Left I) : Type 0 where
+  pub because : IsWhyOfVerdict asked first.survey (survey_if second) (entries_if given) left.why
+  pub stream : left.stream ≡ stream_among first.reading (reading_if second)
 
 -- The run.
 
@@ -151,98 +142,3 @@ module _ {F I O : Type 0} (files : Files F I O) (source : Source I) (sink : Sink
     pub ends : Ends (front_files files) (front_source source) sink front
         (plan_by (is_some inputs.genome) plan) finished.message finished.left front_after
     pub left_below : files_of front_after ≡ after
-
--- A call that is left, and what was read of its stream.
-
-module _ {F I O : Type 0} (files : Files F I O) (source : Source I) where
-  -- files were opened, and then the stream of this name, of which all that came is kept
-  pub record LeavesStream (IsFile IsStream : Word → Type 0) (before : F) (stream : ReadStream I) (after : F) : Type 0 where
-    pub between : F
-    pub name : Word
-    pub files_only : OnlyOpens files IsFile before between
-    pub is_stream : IsStream name
-    pub read : IsReadFrom files source between name stream after
-
-  -- nothing but files was opened, or the stream after them
-  abbrev pub Leaves : (Word → Type 0) → (Word → Type 0) → F → Option (ReadStream I) → F → Type 0
-  Leaves IsFile IsStream before None after = OnlyOpens files IsFile before after
-  Leaves IsFile IsStream before (Some stream) after = LeavesStream IsFile IsStream before stream after
-
-  -- an input is left, a stream or a file
-  abbrev pub LeavesAt : Bool → F → Word → Option (ReadStream I) → F → Type 0
-  LeavesAt true before name stream after = LeavesStreamAt files source before name stream after
-  LeavesAt false before name None after = LeavesFileAt files before name after
-  LeavesAt false before name (Some stream) after = ⊥
-
-  -- The second of two inputs is left, after the first was looked at.
-  pub record LeavesOther (is_stream : Bool) (before : F) (one other : Word) (stream : Option (ReadStream I)) (after : F)
-      : Type 0 where
-    pub between : F
-    pub first : Seen I
-    pub one_seen : SeesFile files source before one first between
-    pub other_left : LeavesAt is_stream between other stream after
-
-  -- one of two inputs is left, of which the first is a file
-  abbrev pub LeavesBoth : Bool → F → Word → Word → Option (ReadStream I) → F → Type 0
-  LeavesBoth is_stream before one other stream after =
-      ((stream ≡ None) × LeavesFileAt files before one after) ⊎ LeavesOther is_stream before one other stream after
-
-  -- one of those of a call is left
-  abbrev pub LeavesTwo : Bool → Bool → F → Word → Word → Option (ReadStream I) → F → Type 0
-  LeavesTwo true other_is before one other stream after = LeavesBoth true before other one stream after
-  LeavesTwo false other_is before one other stream after = LeavesBoth other_is before one other stream after
-
-  abbrev pub LeavesInputs : Bool → Bool → F → Word → Option Word → Option (ReadStream I) → F → Type 0
-  LeavesInputs one_is other_is before one None stream after = LeavesAt one_is before one stream after
-  LeavesInputs one_is other_is before one (Some other) stream after =
-      LeavesTwo one_is other_is before one other stream after
-
-  -- two inputs were looked at, a stream last
-  pub record SeesBoth (is_stream : Bool) (before : F) (one other : Word) (first second : Seen I) (after : F) : Type 0 where
-    pub between : F
-    pub one_seen : SeesFile files source before one first between
-    pub other_seen : Sees files source is_stream between other second after
-
-  -- those of a call were looked at
-  abbrev pub SeesTwo : Bool → Bool → F → Word → Word → Seen I → Seen I → F → Type 0
-  SeesTwo true other_is before one other first second after = SeesBoth true before other one second first after
-  SeesTwo false other_is before one other first second after = SeesBoth other_is before one other first second after
-
-  abbrev pub SeesInputs : Bool → Bool → F → Word → Option Word → Seen I → Option (Seen I) → F → Type 0
-  SeesInputs one_is other_is before one None first None after = Sees files source one_is before one first after
-  SeesInputs one_is other_is before one (Some other) first (Some second) after =
-      SeesTwo one_is other_is before one other first second after
-  SeesInputs one_is other_is before one other first second after = ⊥
-
-  -- The inputs of a call were looked at, and the verdict takes it with these inputs.
-  pub record Looks (before : F) (request : Request) (streams : Streams) (inputs : Inputs I) (after : F) : Type 0 where
-    pub runnable : AreRunnable request streams
-    pub given : Option GenomeFile
-    pub first : Seen I
-    pub second : Option (Seen I)
-    pub between : F
-    pub genome_read : ReadsGenomeIf files source before (plan_seen request.plan).names.genome given between
-    pub seen : SeesInputs streams.first streams.second between (plan_seen request.plan).names.first (plan_seen request.plan).names.second
-        first second after
-    pub taken : IsTaken (asked_by request) given first second inputs
-
-  -- it is left
-  abbrev pub LeavesCall : F → Request → Streams → Option (ReadStream I) → F → Type 0
-  LeavesCall before request streams stream after =
-      Leaves (IsFileOf (plan_seen request.plan).names streams) (IsStreamOf (plan_seen request.plan).names streams)
-      before stream after
-
-module _ {F I O : Type 0} (files : Files F I O) (source : Source I) (sink : Sink O) where
-  -- a call is taken: its inputs were looked at, and then its plan was run over them
-  pub record Takes (before : F) (request : Request) (streams : Streams) (finished : Finished (FrontInput I) O) (after : F)
-      : Type 0 where
-    pub inputs : Inputs I
-    pub between : F
-    pub looked : Looks files source before request streams inputs between
-    pub ran : RunsInputs files source sink between (plan_seen request.plan) inputs finished after
-
-  -- what becomes of a call
-  abbrev pub Answers : F → Request → Streams → Answered I O → F → Type 0
-  Answers before request streams (Took finished) after = Takes before request streams finished after
-  Answers before request streams (Left left) after =
-      LeavesCall files source before request streams left.stream after

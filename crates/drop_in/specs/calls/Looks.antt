@@ -1,41 +1,35 @@
 -- What looking at the inputs of a call does: files are those before and after.
-use Rattle.std.specs.Prelude.{ℕ, ◌≡◌, ◌⊎◌, Bool, true, false, List, Option, Some, None, Result, Ok, Err}
+use Rattle.std.specs.Prelude.{ℕ, ◌≡◌, ⊤, true, List, Option, Some, None, Result, Ok, Err, length, nat_lt}
+use Rattle.bt_lines.specs.calls.Device.{ReadsOn}
 use Rattle.bt_lines.specs.declared.device.Source.{Ghosts as Source}
 use Rattle.bt_lines.specs.declared.fault.Input.{Input}
 use Rattle.bt_lines.specs.declared.fault.Input.TheVariants.{Genome}
-use Rattle.bt_lines.specs.calls.Device.{FailsAfter, ReadsOn}
 use Rattle.bt_lines.specs.model.Lines.{whole_text}
-use Rattle.bt_bed.specs.model.Genome.{Entry, genome_handed}
 use Rattle.bt_bed.specs.calls.GenomeTable.{entries}
+use Rattle.bt_bed.specs.model.Genome.{genome_handed}
 use Rattle.bt_files.specs.declared.files.Files.{Ghosts as Files}
 use Rattle.bt_front.specs.calls.Survey.{LeavesText, Surveys}
 use Rattle.bt_front.specs.declared.survey.Survey.{Survey}
 use Rattle.bt_front.specs.declared.survey.trouble.Trouble.{Trouble}
 use Rattle.bt_tool.specs.model.Table.{Word}
+use Rattle.drop_in.specs.calls.Opening.{IsRefused}
+use Rattle.drop_in.specs.calls.Whys.{file_why, stream_why}
 use Rattle.drop_in.specs.declared.genome_file.GenomeFile.{GenomeFile}
+use Rattle.drop_in.specs.declared.looks.Left.{Left}
 use Rattle.drop_in.specs.declared.looks.ReadStream.{ReadStream}
-use Rattle.drop_in.specs.declared.looks.Reading.{Reading}
 use Rattle.drop_in.specs.declared.looks.Reading.TheVariants.{File, Stream}
 use Rattle.drop_in.specs.declared.looks.Seen.{Seen}
-
--- Nothing but inputs was opened, each by a name of these: no output is made, and nothing is written.
-pub data OnlyOpens {F I O : Type 0} (files : Files F I O) (IsNamed : Word → Type 0) (before : F) : F → Type 0 where
-  none_opened : OnlyOpens files IsNamed before before
-  then_opened : {between : F} → OnlyOpens files IsNamed before between → (name : Word) (input : I) (after : F)
-      → IsNamed name → files.opens between name input after → OnlyOpens files IsNamed before after
-  then_refused : {between : F} → OnlyOpens files IsNamed before between → (name : Word) (after : F)
-      → files.refuses between name after → OnlyOpens files IsNamed before after
+use Rattle.drop_in.specs.declared.opening.CallInputs.{CallInputs}
+use Rattle.drop_in.specs.declared.opening.FileOrStream.{FileOrStream}
+use Rattle.drop_in.specs.declared.opening.FileOrStream.TheVariants.{File as IsFile, Stream as IsStream}
+use Rattle.drop_in.specs.declared.opening.OpenedFile.{OpenedFile}
+use Rattle.drop_in.specs.declared.why.Why.{Why}
 
 -- all that a source hands over, up to its end
 pub record ReadsText {S : Type 0} (source : Source S) (before : S) (text : List ℕ) : Type 0 where
   pub after : S
   pub served : ReadsOn source.is_read before text after
   pub told : source.end_told after ≡ true
-
--- whether it reads a stream
-abbrev pub is_stream : {I : Type 0} → Reading I → Bool
-is_stream (File again) = false
-is_stream (Stream stream) = true
 
 -- A stream was surveyed, and all that it gave is kept, in order.
 abbrev pub SurveysStream : {I : Type 0} → Source I → I → ReadStream I → Result Survey Trouble → Type 0
@@ -44,23 +38,60 @@ SurveysStream source start stream (Ok survey) =
 SurveysStream source start stream (Err trouble) =
     (leaves : LeavesText source start stream.source trouble) × (stream.kept.items ≡ leaves.bytes)
 
--- a file is left: it was opened by its name at most
-abbrev pub LeavesFileAt : {F I O : Type 0} → Files F I O → F → Word → F → Type 0
-LeavesFileAt files before name after = OnlyOpens files (λ word. word ≡ name) before after
+-- The files of a call, which were opened before.
+
+module _ {I : Type 0} (source : Source I) where
+  -- a genome file was read to its end, and these are its text and its chromosomes
+  pub record ReadsGenome (opened : I) (file : GenomeFile) : Type 0 where
+    pub reads : ReadsText source opened file.text.items
+    pub is : genome_handed Genome (whole_text file.text.items) ≡ Ok (entries file.genome)
+
+  -- if the call has one
+  abbrev pub ReadsGenomeIf : Option I → Option GenomeFile → Type 0
+  ReadsGenomeIf None None = ⊤
+  ReadsGenomeIf (Some opened) (Some file) = ReadsGenome opened file
+  ReadsGenomeIf opened file = ⊥
+
+  -- a file was surveyed, and the run reads it as it was opened for that
+  pub record SeesFile (file : OpenedFile I) (seen : Seen I) : Type 0 where
+    pub read : I
+    pub surveys : Surveys source file.for_survey read seen.survey
+    pub reading : seen.reading ≡ File file.for_run
+
+  -- or its text leaves the call
+  pub record LeavesFile (file : OpenedFile I) (input : Input) (why : Why) : Type 0 where
+    pub read : I
+    pub trouble : Trouble
+    pub leaves : LeavesText source file.for_survey read trouble
+    pub because : why ≡ file_why input trouble
+
+  -- an input, if it's a file
+  abbrev pub SeesIfFile : FileOrStream (OpenedFile I) → FileOrStream (Seen I) → Type 0
+  SeesIfFile (IsFile file) (IsFile seen) = SeesFile file seen
+  SeesIfFile IsStream IsStream = ⊤
+  SeesIfFile file seen = ⊥
+
+  abbrev pub LeavesIfFile : FileOrStream (OpenedFile I) → Input → Why → Type 0
+  LeavesIfFile (IsFile file) input why = LeavesFile file input why
+  LeavesIfFile IsStream input why = ⊥
+
+  -- if there is one
+  abbrev pub SeesOther : Option (FileOrStream (OpenedFile I)) → Option (FileOrStream (Seen I)) → Type 0
+  SeesOther None None = ⊤
+  SeesOther (Some file) (Some seen) = SeesIfFile file seen
+  SeesOther file seen = ⊥
+
+  abbrev pub LeavesOther : Option (FileOrStream (OpenedFile I)) → Input → Why → Type 0
+  LeavesOther None input why = ⊥
+  LeavesOther (Some file) input why = LeavesIfFile file input why
+
+  -- the inputs that are files were surveyed
+  pub record SeesFiles (opened : CallInputs (OpenedFile I)) (seen : CallInputs (Seen I)) : Type 0 where
+    pub first : SeesIfFile opened.first seen.first
+    pub second : SeesOther opened.second seen.second
 
 module _ {F I O : Type 0} (files : Files F I O) (source : Source I) where
-  -- the file of this name was surveyed, and opened again for the run
-  pub record SeesFile (before : F) (name : Word) (seen : Seen I) (after : F) : Type 0 where
-    pub between : F
-    pub opened : I
-    pub read : I
-    pub again : I
-    pub opens : files.opens before name opened between
-    pub surveys : Surveys source opened read seen.survey
-    pub opens_again : files.opens between name again after
-    pub reading : seen.reading ≡ File again
-
-  -- the stream of this name was surveyed up to its end, and all that it gave is kept
+  -- the stream of this name was opened and surveyed up to its end, and all that it gave is kept
   pub record SeesStream (before : F) (name : Word) (seen : Seen I) (after : F) : Type 0 where
     pub opened : I
     pub stream : ReadStream I
@@ -68,32 +99,31 @@ module _ {F I O : Type 0} (files : Files F I O) (source : Source I) where
     pub surveys : SurveysStream source opened stream (Ok seen.survey)
     pub reading : seen.reading ≡ Stream stream
 
-  -- an input was looked at, a stream or a file
-  abbrev pub Sees : Bool → F → Word → Seen I → F → Type 0
-  Sees false before name seen after = SeesFile before name seen after
-  Sees true before name seen after = SeesStream before name seen after
+  -- it leaves the call: it wasn't opened, or its text does, and all that its reads handed over is kept, in order
+  pub data LeavesStream (before : F) (name : Word) (input : Input) (room : ℕ) (left : Left I) (after : F) : Type 0 where
+    unopened : left.stream ≡ None → IsRefused files before name input left.why after
+        → LeavesStream before name input room left after
+    by_text : (opened : I) (stream : ReadStream I) (trouble : Trouble) → left.stream ≡ Some stream
+        → files.opens before name opened after → SurveysStream source opened stream (Err trouble)
+        → left.why ≡ stream_why input trouble (nat_lt room (length stream.kept.items))
+        → LeavesStream before name input room left after
 
-  -- The stream of this name was opened, and all that its reads handed over is kept, in order.
-  pub record IsReadFrom (before : F) (name : Word) (stream : ReadStream I) (after : F) : Type 0 where
-    pub opened : I
-    pub opens : files.opens before name opened after
-    pub handed : ReadsOn source.is_read opened stream.kept.items stream.source
-        ⊎ FailsAfter source.is_read opened stream.kept.items stream.source
+  -- an input is looked at in the end: a stream is read now, if it is one
+  abbrev pub SeesInput : F → FileOrStream (Seen I) → Word → Seen I → F → Type 0
+  SeesInput before (IsFile looked) name seen after = (seen ≡ looked) × (after ≡ before)
+  SeesInput before IsStream name seen after = SeesStream before name seen after
 
-  -- a stream is left: it wasn't opened, or what was read of it is kept
-  abbrev pub LeavesStreamAt : F → Word → Option (ReadStream I) → F → Type 0
-  LeavesStreamAt before name None after = files.refuses before name after
-  LeavesStreamAt before name (Some stream) after = IsReadFrom before name stream after
+  abbrev pub LeavesInput : F → FileOrStream (Seen I) → Word → Input → ℕ → Left I → F → Type 0
+  LeavesInput before (IsFile looked) name input room left after = ⊥
+  LeavesInput before IsStream name input room left after = LeavesStream before name input room left after
 
-  -- The genome file of this name was opened and read to its end, and these are its text and its chromosomes.
-  pub record ReadsGenomeFile (before : F) (name : Word) (file : GenomeFile) (after : F) : Type 0 where
-    pub opened : I
-    pub opens : files.opens before name opened after
-    pub reads : ReadsText source opened file.text.items
-    pub is : genome_handed Genome (whole_text file.text.items) ≡ Ok (entries file.genome)
+  -- if there is one, which has a name
+  abbrev pub SeesInputIf : F → Option (FileOrStream (Seen I)) → Option Word → Option (Seen I) → F → Type 0
+  SeesInputIf before None name None after = after ≡ before
+  SeesInputIf before (Some looked) None None after = after ≡ before
+  SeesInputIf before (Some looked) (Some name) (Some seen) after = SeesInput before looked name seen after
+  SeesInputIf before looked name seen after = ⊥
 
-  -- if the call has a genome file
-  abbrev pub ReadsGenomeIf : F → Option Word → Option GenomeFile → F → Type 0
-  ReadsGenomeIf before None None after = after ≡ before
-  ReadsGenomeIf before (Some name) (Some file) after = ReadsGenomeFile before name file after
-  ReadsGenomeIf before name file after = ⊥
+  abbrev pub LeavesInputIf : F → Option (FileOrStream (Seen I)) → Option Word → Input → ℕ → Left I → F → Type 0
+  LeavesInputIf before (Some looked) (Some name) input room left after = LeavesInput before looked name input room left after
+  LeavesInputIf before looked name input room left after = ⊥

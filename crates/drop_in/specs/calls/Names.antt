@@ -1,6 +1,6 @@
 -- Which names of inputs are those of streams, whatever the files are.
-use Rattle.std.specs.Prelude.{ℕ, Bool, true, ◌||◌, List, [], ◌∷◌, bytes_eq, codes, nat_eq}
-use Rattle.std.specs.List.{list_any, starts_with}
+use Rattle.std.specs.Prelude.{Bool, [], ◌∷◌, bytes_eq, codes}
+use Rattle.std.specs.List.{list_any}
 use Rattle.bt_tool.specs.model.Table.{Word}
 
 -- whether a name leads to standard input

@@ -1,5 +1,5 @@
 -- What the words of a call ask for, or why it isn't run here.
-use Rattle.std.specs.Prelude.{ℕ, ◌≡◌, Bool, false, true, List, [], ◌∷◌, bytes_eq, codes, Option, Some, None, Ok, Err, IsOk}
+use Rattle.std.specs.Prelude.{◌≡◌, Bool, false, true, List, [], ◌∷◌, bytes_eq, codes, Option, Some, None, Ok, Err, IsOk}
 use Rattle.bt_lines.specs.declared.fault.Input.{Input}
 use Rattle.bt_lines.specs.declared.fault.Input.TheVariants.{First, Genome, Second}
 use Rattle.bt_front.specs.model.Words.{asked_of}

@@ -1,6 +1,6 @@
 use Rattle.bt_lines.proofs.Std.{List, arith, subst, sym, take, ℕ}
 use Rattle.bt_lines.specs.calls.Device.{ReadsOn, begun}
-use Rattle.bt_front.specs.calls.Stream.{kept_of, source_of}
+use Rattle.bt_front.specs.calls.Stream.{source_of}
 use Rattle.drop_in.proofs.lemmas.KeptLemmas.{kept_more}
 use Rattle.drop_in.proofs.genome_file.read_text.Goals as goal
 

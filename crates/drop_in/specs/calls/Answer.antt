@@ -1,0 +1,110 @@
+-- What becomes of a call: files are those before and after.
+use Rattle.std.specs.Prelude.{ℕ, ◌≡◌, true, Option, None, is_some}
+use Rattle.bt_lines.specs.declared.device.Sink.{Ghosts as Sink}
+use Rattle.bt_lines.specs.declared.device.Source.{Ghosts as Source}
+use Rattle.bt_lines.specs.declared.fault.Input.TheVariants.{First, Second}
+use Rattle.bt_files.specs.declared.carrying_out.Finished.{Finished}
+use Rattle.bt_files.specs.declared.files.Files.{Ghosts as Files}
+use Rattle.bt_tool.specs.calls.Plan.{plan_seen}
+use Rattle.bt_tool.specs.model.Options.{Named}
+use Rattle.drop_in.specs.calls.Call.{AreRunnable, IsLeftByVerdict, IsTaken, RunsInputs, asked_by}
+use Rattle.drop_in.specs.calls.Looks.{LeavesIfFile, LeavesInput, LeavesInputIf, LeavesOther, ReadsGenomeIf, SeesFiles, SeesIfFile, SeesInput, SeesInputIf}
+use Rattle.drop_in.specs.calls.Opening.{CannotOpen, OpensAll}
+use Rattle.drop_in.specs.calls.Whys.{IsWhyOfScript}
+use Rattle.drop_in.specs.declared.answering.Answered.{Answered}
+use Rattle.drop_in.specs.declared.answering.Answered.TheVariants.{Left as IsLeft, Took}
+use Rattle.drop_in.specs.declared.answering.Inputs.{Inputs}
+use Rattle.drop_in.specs.declared.front_files.FrontInput.{FrontInput}
+use Rattle.drop_in.specs.declared.genome_file.GenomeFile.{GenomeFile}
+use Rattle.drop_in.specs.declared.looks.Left.{Left}
+use Rattle.drop_in.specs.declared.looks.Seen.{Seen}
+use Rattle.drop_in.specs.declared.opening.CallInputs.{CallInputs}
+use Rattle.drop_in.specs.declared.opening.FileOrStream.{FileOrStream}
+use Rattle.drop_in.specs.declared.opening.OpenedFile.{OpenedFile}
+use Rattle.drop_in.specs.declared.opening.OpenedFiles.{OpenedFiles}
+use Rattle.drop_in.specs.declared.opening.Streams.{Streams}
+use Rattle.drop_in.specs.declared.why.Why.{Why}
+use Rattle.drop_in.specs.declared.words.Request.{Request}
+
+module _ {I : Type 0} (source : Source I) where
+  -- the first of the files whose text leaves the call
+  pub data LeavesFiles (opened : CallInputs (OpenedFile I)) (why : Why) : Type 0 where
+    of_first : LeavesIfFile source opened.first First why → LeavesFiles opened why
+    of_second : (seen : FileOrStream (Seen I)) → SeesIfFile source opened.first seen
+        → LeavesOther source opened.second Second why → LeavesFiles opened why
+
+module _ {F I O : Type 0} (files : Files F I O) (source : Source I) where
+  -- all inputs were looked at: the stream too, after the files
+  pub record SeesInputs (before : F) (names : Named) (looked : CallInputs (Seen I)) (first : Seen I) (second : Option (Seen I))
+      (after : F) : Type 0 where
+    pub between : F
+    pub first_seen : SeesInput files source before looked.first names.first first between
+    pub second_seen : SeesInputIf files source between looked.second names.second second after
+
+  -- the stream leaves the call
+  pub data LeavesStreams (before : F) (names : Named) (looked : CallInputs (Seen I)) (room : ℕ) (left : Left I) (after : F)
+      : Type 0 where
+    of_first : LeavesInput files source before looked.first names.first First room left after
+        → LeavesStreams before names looked room left after
+    of_second : (first : Seen I) (between : F) → SeesInput files source before looked.first names.first first between
+        → LeavesInputIf files source between looked.second names.second Second room left after
+        → LeavesStreams before names looked room left after
+
+  -- All that was opened was looked at, and then the stream; and the verdict takes the call, with these inputs.
+  pub record LooksAtOpened (before : F) (request : Request) (opened : OpenedFiles I) (inputs : Inputs I) (after : F)
+      : Type 0 where
+    pub given : Option GenomeFile
+    pub looked : CallInputs (Seen I)
+    pub first : Seen I
+    pub second : Option (Seen I)
+    pub genome_read : ReadsGenomeIf source opened.genome given
+    pub files_seen : SeesFiles source opened.inputs looked
+    pub seen : SeesInputs before (plan_seen request.plan).names looked first second after
+    pub taken : IsTaken (asked_by request) given first second inputs
+
+  -- Something of it leaves the call: the genome file, another file, the stream, or the verdict on all of them.
+  pub data LeavesOpened (before : F) (request : Request) (opened : OpenedFiles I) (room : ℕ) (left : Left I) (after : F)
+      : Type 0 where
+    by_genome : left.stream ≡ None → after ≡ before → is_some opened.genome ≡ true
+        → LeavesOpened before request opened room left after
+    by_file : (given : Option GenomeFile) → left.stream ≡ None → after ≡ before → ReadsGenomeIf source opened.genome given
+        → LeavesFiles source opened.inputs left.why → LeavesOpened before request opened room left after
+    by_stream : (given : Option GenomeFile) (looked : CallInputs (Seen I)) → ReadsGenomeIf source opened.genome given
+        → SeesFiles source opened.inputs looked → LeavesStreams before (plan_seen request.plan).names looked room left after
+        → LeavesOpened before request opened room left after
+    by_verdict : (given : Option GenomeFile) (looked : CallInputs (Seen I)) (first : Seen I) (second : Option (Seen I))
+        → ReadsGenomeIf source opened.genome given → SeesFiles source opened.inputs looked
+        → SeesInputs before (plan_seen request.plan).names looked first second after
+        → IsLeftByVerdict (asked_by request) given first second left → LeavesOpened before request opened room left after
+
+  -- The inputs of a call were looked at, once all its files were opened, and the verdict takes it with these inputs.
+  pub record Looks (before : F) (request : Request) (streams : Streams) (inputs : Inputs I) (after : F) : Type 0 where
+    pub runnable : AreRunnable request streams
+    pub opened : OpenedFiles I
+    pub between : F
+    pub opens : OpensAll files before (plan_seen request.plan).names streams opened between
+    pub looks : LooksAtOpened between request opened inputs after
+
+  -- It is left: to the script, whatever is in the files; or a file can't be opened; or once all were opened, for what they are.
+  pub data LeavesCall (before : F) (request : Request) (streams : Streams) (room : ℕ) (left : Left I) (after : F) : Type 0 where
+    to_script : left.stream ≡ None → after ≡ before → IsWhyOfScript request streams left.why
+        → LeavesCall before request streams room left after
+    unopened : left.stream ≡ None → CannotOpen files before (plan_seen request.plan).names streams left.why after
+        → LeavesCall before request streams room left after
+    once_opened : (opened : OpenedFiles I) (between : F) → AreRunnable request streams
+        → OpensAll files before (plan_seen request.plan).names streams opened between
+        → LeavesOpened between request opened room left after → LeavesCall before request streams room left after
+
+module _ {F I O : Type 0} (files : Files F I O) (source : Source I) (sink : Sink O) where
+  -- a call is taken: its inputs were looked at, and then its plan was run over them
+  pub record Takes (before : F) (request : Request) (streams : Streams) (finished : Finished (FrontInput I) O) (after : F)
+      : Type 0 where
+    pub inputs : Inputs I
+    pub between : F
+    pub looked : Looks files source before request streams inputs between
+    pub ran : RunsInputs files source sink between (plan_seen request.plan) inputs finished after
+
+  -- what becomes of a call, of whose stream as many bytes are kept as there is room for
+  abbrev pub Answers : F → Request → Streams → ℕ → Answered I O → F → Type 0
+  Answers before request streams room (Took finished) after = Takes before request streams finished after
+  Answers before request streams room (IsLeft left) after = LeavesCall files source before request streams room left after

@@ -1,0 +1,64 @@
+-- Why a call is left.
+use Rattle.std.specs.Prelude.{◌≡◌, Bool, true, false, ◌&&◌, List, Option, Ok, Err, not, if◌then◌else◌}
+use Rattle.bt_lines.specs.declared.fault.Input.{Input}
+use Rattle.bt_lines.specs.declared.fault.Kind.{Kind}
+use Rattle.bt_lines.specs.declared.fault.Kind.TheVariants.{ReadFailed}
+use Rattle.bt_bed.specs.model.Genome.{Entry}
+use Rattle.bt_front.specs.declared.survey.Survey.{Survey}
+use Rattle.bt_front.specs.declared.survey.oddity.Oddity.{Oddity}
+use Rattle.bt_front.specs.declared.survey.oddity.Oddity.TheVariants.{Gzip}
+use Rattle.bt_front.specs.declared.survey.trouble.Trouble.{Trouble}
+use Rattle.bt_front.specs.declared.survey.trouble.Trouble.TheVariants.{Odd, Refused}
+use Rattle.bt_front.specs.declared.verdict.reason.InOrderOf.TheVariants.{Found}
+use Rattle.bt_front.specs.declared.verdict.reason.Reason.{Reason}
+use Rattle.bt_front.specs.declared.verdict.reason.Reason.TheVariants.{NoCommonOrder}
+use Rattle.bt_front.specs.declared.words.Asked.{Asked}
+use Rattle.bt_front.specs.model.Verdict.{have_common_order, lists_hits, verdict_of}
+use Rattle.drop_in.specs.declared.opening.Streams.{Streams}
+use Rattle.drop_in.specs.declared.why.Why.{Why}
+use Rattle.drop_in.specs.declared.why.Why.TheVariants.{GenomeStream, Hits, LongStream, NoMemory, Text, TwoStreams, Verdict, Zipped}
+use Rattle.drop_in.specs.declared.words.Request.{Request}
+
+-- the hits of a record have to be put in order
+abbrev pub orders_hits : Request → Bool
+orders_hits request = lists_hits request.plan.command && not request.is_sorted
+
+-- the script takes it, whatever is in the files
+pub data IsWhyOfScript (request : Request) (streams : Streams) : Why → Type 0 where
+  of_hits : orders_hits request ≡ true → IsWhyOfScript request streams Hits
+  of_genome : streams.genome ≡ true → IsWhyOfScript request streams GenomeStream
+  of_two : streams.first && streams.second ≡ true → IsWhyOfScript request streams TwoStreams
+
+-- no order of chromosomes is found that fits the inputs, or there is no memory for it
+pub data IsWhyOfOrder (one : Survey) (other : Option Survey) : Why → Type 0 where
+  none_fits : have_common_order one other ≡ false → IsWhyOfOrder one other (Verdict NoCommonOrder)
+  no_memory : IsWhyOfOrder one other NoMemory
+
+-- the verdict on the inputs leaves it; or it takes it by an order that has to be found, which isn't
+pub data IsWhyOfVerdict (asked : Asked) (one : Survey) (other : Option Survey) (genome : Option (List Entry)) (why : Why)
+    : Type 0 where
+  by_reason : (reason : Reason) → verdict_of asked one other genome ≡ Err reason → why ≡ Verdict reason
+      → IsWhyOfVerdict asked one other genome why
+  by_order : verdict_of asked one other genome ≡ Ok Found → IsWhyOfOrder one other why
+      → IsWhyOfVerdict asked one other genome why
+
+-- whether it is a gzip file
+abbrev pub is_gzip : Oddity → Bool
+is_gzip Gzip = true
+is_gzip oddity = false
+
+-- whether a read failed
+abbrev pub is_failed_read : Kind → Bool
+is_failed_read ReadFailed = true
+is_failed_read kind = false
+
+-- of a file, by what leaves its text to bedtools
+abbrev pub file_why : Input → Trouble → Why
+file_why input (Odd odd) = if is_gzip odd.oddity then Zipped input else Text input (Odd odd)
+file_why input trouble = Text input trouble
+
+-- of a stream, and by whether more of it is kept than there is room for
+abbrev pub stream_why : Input → Trouble → Bool → Why
+stream_why input (Refused fault) is_long =
+    if is_failed_read fault.kind && is_long then LongStream else Text input (Refused fault)
+stream_why input trouble is_long = Text input trouble

@@ -1,0 +1,144 @@
+//! The files of a call, which are all opened before any is read, as bedtools does.
+
+ghost use Rattle.std.specs.Prelude.{◌≡◌, IfErr, IfOk, option_map, string_bytes};
+ghost use Rattle.bt_files.specs.calls.Ending.{OpensIf};
+ghost use Rattle.bt_lines.specs.declared.fault.Input.TheVariants.{Genome, Second};
+ghost use Rattle.bt_tool.specs.calls.Plan.{plan_seen};
+ghost use Rattle.drop_in.specs.calls.Opening.{CannotOpen, CannotOpenIf, CannotOpenInput, IsRefused, IsRefusedIf, OpensAll, OpensInput, OpensInputIf};
+
+use crate::why::Why;
+use bt_files::{Files, Unopened};
+use bt_lines::Input;
+use bt_tool::Plan;
+
+/// Which inputs of a call are streams.
+#[derive(Clone, Copy, Debug, PartialEq, Eq)]
+pub struct Streams {
+    pub genome: bool,
+    pub first: bool,
+    pub second: bool,
+}
+
+/// A file of which nothing was read. It was opened twice, so that the run reads what was surveyed, also if the file is
+/// removed or replaced.
+#[derive(Drop)]
+pub struct OpenedFile<I> {
+    pub for_survey: I,
+    pub for_run: I,
+}
+
+/// An input of a call: a file, with what is known of it, or a stream. Streams are opened last, once the files were looked at.
+#[derive(Drop)]
+pub enum FileOrStream<T> {
+    File(T),
+    Stream,
+}
+
+/// The inputs of a call, except its genome file.
+#[derive(Drop)]
+pub struct CallInputs<T> {
+    pub first: FileOrStream<T>,
+    pub second: Option<FileOrStream<T>>,
+}
+
+/// The files of a call, of which none was read.
+#[derive(Drop)]
+pub struct OpenedFiles<I> {
+    pub genome: Option<I>,
+    pub inputs: CallInputs<OpenedFile<I>>,
+}
+
+/// Opens the files of a call, in the order in which a plan opens them. A genome file is opened once, since its text is kept.
+pub fn open_all<F: Files>(
+    files: &mut F,
+    plan: &Plan,
+    streams: Streams,
+) -> Result<OpenedFiles<F::Input>, Why>
+    ensures opens { IfOk result (λ opened. OpensAll F.Files files.old (plan_seen plan.now).names streams opened files.new) }
+    ensures cannot { IfErr result (λ why. CannotOpen F.Files files.old (plan_seen plan.now).names streams why files.new) }
+{
+    let genome = match open_if(files, &plan.genome) {
+        Ok(genome) => genome,
+        Err(why) => return Err(why),
+    };
+    let first = match open_input(files, plan.first.as_str(), Input::First, streams.first) {
+        Ok(first) => first,
+        Err(why) => return Err(why),
+    };
+    let second = match open_second(files, &plan.second, streams.second) {
+        Ok(second) => second,
+        Err(why) => return Err(why),
+    };
+    let inputs = CallInputs { first, second };
+    Ok(OpenedFiles { genome, inputs })
+}
+
+// Opens the genome file, if there is one.
+fn open_if<F: Files>(files: &mut F, name: &Option<String>) -> Result<Option<F::Input>, Why>
+    ensures opens { IfOk result (λ opened. OpensIf F.Files files.old (option_map string_bytes name.now) opened files.new) }
+    ensures cannot { IfErr result (λ why. IsRefusedIf F.Files files.old (option_map string_bytes name.now) Genome why files.new) }
+{
+    match name {
+        Some(name) => match open(files, name.as_str(), Input::Genome) {
+            Ok(opened) => Ok(Some(opened)),
+            Err(why) => Err(why),
+        },
+        None => Ok(None),
+    }
+}
+
+// Opens the second input, if there is one.
+fn open_second<F: Files>(
+    files: &mut F,
+    name: &Option<String>,
+    is_stream: bool,
+) -> Result<Option<FileOrStream<OpenedFile<F::Input>>>, Why>
+    ensures opens { IfOk result (λ opened. OpensInputIf F.Files is_stream files.old (option_map string_bytes name.now) opened files.new) }
+    ensures cannot { IfErr result (λ why. CannotOpenIf F.Files is_stream files.old (option_map string_bytes name.now) Second why files.new) }
+{
+    match name {
+        Some(name) => match open_input(files, name.as_str(), Input::Second, is_stream) {
+            Ok(opened) => Ok(Some(opened)),
+            Err(why) => Err(why),
+        },
+        None => Ok(None),
+    }
+}
+
+// Opens an input, unless it is a stream.
+fn open_input<F: Files>(
+    files: &mut F,
+    name: &str,
+    input: Input,
+    is_stream: bool,
+) -> Result<FileOrStream<OpenedFile<F::Input>>, Why>
+    ensures opens { IfOk result (λ opened. OpensInput F.Files is_stream files.old name.now opened files.new) }
+    ensures cannot { IfErr result (λ why. CannotOpenInput F.Files is_stream files.old name.now input why files.new) }
+{
+    if is_stream {
+        return Ok(FileOrStream::Stream);
+    }
+    let for_survey = match open(files, name, input) {
+        Ok(opened) => opened,
+        Err(why) => return Err(why),
+    };
+    match open(files, name, input) {
+        Ok(for_run) => Ok(FileOrStream::File(OpenedFile {
+            for_survey,
+            for_run,
+        })),
+        Err(why) => Err(why),
+    }
+}
+
+/// Opens an input.
+pub fn open<F: Files>(files: &mut F, name: &str, input: Input) -> Result<F::Input, Why>
+    ensures opens { IfOk result (λ opened. F.opens files.old name.now opened files.new) }
+    ensures refused { IfErr result (λ why. IsRefused F.Files files.old name.now input why files.new) }
+{
+    match files.open(name) {
+        Ok(opened) => Ok(opened),
+        Err(Unopened::NoMemory) => Err(Why::NoMemory),
+        Err(Unopened::Refused) => Err(Why::Unopened(input)),
+    }
+}
