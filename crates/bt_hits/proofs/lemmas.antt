@@ -1,5 +1,6 @@
 -- Lemmas by theme.
 pub mod Bins
+pub mod Ending
 pub mod Listing
 pub mod Meeting
 pub mod Reading

@@ -15,11 +15,11 @@
 //!     let text = b"chr1\t0\t20000\tlong\nchr1\t60\t70\tshort\n";
 //!     let second = records_of(rt.alloc(), &ByteOrder, text).ok().ok_or("records")?;
 //!     let (shape, rule) = (Shape::OrigBoth, HitRule::any_overlap());
-//!     let mut out = Out::new(ScriptSink::new(rt.alloc(), 7, None));
-//!     put_hits_by_bins(rt.alloc(), &ByteOrder, Listing { shape, rule }, &first, second, &mut out)?;
-//!     out.flush()?;
+//!     let (listing, records) = (Listing { shape, rule }, BothRecords { first, second });
+//!     let sink = ScriptSink::new(rt.alloc(), 7, None);
+//!     let (fault, sink) = list_hits(rt.alloc(), &ByteOrder, listing, records, sink);
 //!     let want = b"chr1\t50\t90\tchr1\t60\t70\tshort\nchr1\t50\t90\tchr1\t0\t20000\tlong\n";
-//!     assert_eq!(rt; out.into_sink().taken(), want.as_slice());
+//!     assert_eq!(rt; (fault, sink.taken()), (None, want.as_slice()));
 //!     Ok(())
 //! }
 //! ```
@@ -35,5 +35,5 @@ mod reading;
 mod tests;
 mod writing;
 
-pub use listing::{Listing, put_hits_by_bins};
+pub use listing::{BothRecords, Listing, list_hits};
 pub use reading::{Unread, records_of};

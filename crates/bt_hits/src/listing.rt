@@ -1,9 +1,11 @@
 //! The hits of all records.
 
-ghost use Rattle.std.specs.Prelude.{◌≡◌, ◌∷◌, ◌++◌, IsTrue, List, true};
+ghost use Rattle.std.specs.Prelude.{◌≡◌, ◌∷◌, ◌++◌, IsTrue, List, option_map, true};
+ghost use Rattle.bt_lines.specs.calls.Names.{fault_value};
 ghost use Rattle.bt_bed.specs.calls.Orders.{ArePlaced};
 ghost use Rattle.bt_bed.specs.model.Feature.{Feature, intervals_of};
-ghost use Rattle.bt_hits.specs.calls.Listing.{ListsHits, has_line_each};
+ghost use Rattle.bt_hits.specs.calls.Listing.{ListsHits, WritesHits, has_line_each};
+ghost use Rattle.bt_hits.specs.inside.Ending.{EndsPutting};
 ghost use Rattle.bt_hits.specs.inside.Meeting.{ListsNext, Sees};
 ghost use Rattle.bt_hits.specs.model.Bins.{intersect_by_bins};
 
@@ -24,10 +26,52 @@ pub struct Listing {
     pub rule: HitRule,
 }
 
-/// Puts the lines of the hits of each record of the first input, those of one record in the order of bedtools: level by level,
-/// the smallest bins first. It fails with `NoMemory` if those that can still be hit can't be kept, and with `WriteFailed` if the
-/// lines can't be written.
-pub fn put_hits_by_bins<O: ChromOrder, K: Sink>(
+/// Writes the lines of the hits of each record of the first input, those of one record in the order of bedtools: level by level,
+/// the smallest bins first. It gives the sink back, and the fault that ended it, if there is one: `NoMemory` if the records
+/// that can still be hit can't be kept, and `WriteFailed` if the lines can't be written.
+pub fn list_hits<O: ChromOrder, K: Sink>(
+    alloc: Global,
+    order: &O,
+    listing: Listing,
+    records: BothRecords,
+    sink: K,
+) -> (Option<Fault>, K)
+    requires shape { has_line_each listing.shape ≡ true }
+    requires first { ArePlaced (O.order order.now) (intervals_of records.first.items) }
+    requires second { ArePlaced (O.order order.now) (intervals_of records.second.items) }
+    ensures { WritesHits K.Sink sink (intersect_by_bins listing.shape listing.rule records.first.items records.second.items)
+        (option_map fault_value result.0) result.1 }
+{
+    let BothRecords { first, second } = records;
+    let mut out = Out::new(sink);
+    let put = put_hits_by_bins(alloc, order, listing, &first, second, &mut out);
+    let fault = finished(put, &mut out);
+    (fault, out.into_sink())
+}
+
+/// The records of both inputs.
+#[derive(Drop)]
+pub struct BothRecords {
+    pub first: VecDeque<Rec>,
+    pub second: VecDeque<Rec>,
+}
+
+// Passes on what is held back, and gives the fault that it ends with.
+fn finished<K: Sink>(put: Result<(), Fault>, out: &mut Out<K>) -> Option<Fault>
+    ensures { EndsPutting put out.old.output (option_map fault_value result) out.new.output }
+{
+    let flushed = out.flush();
+    match put {
+        Err(fault) => Some(fault),
+        Ok(()) => match flushed {
+            Ok(()) => None,
+            Err(fault) => Some(fault),
+        },
+    }
+}
+
+// Puts the lines.
+fn put_hits_by_bins<O: ChromOrder, K: Sink>(
     alloc: Global,
     order: &O,
     listing: Listing,

@@ -1,8 +1,8 @@
 //! What bedtools 2.30.0 writes of two texts without `-sorted`, by each shape and each rule of what hits a record.
 
-use crate::{Listing, Unread, put_hits_by_bins, records_of};
+use crate::{BothRecords, Listing, Unread, list_hits, records_of};
 use bt_bed::{ByteOrder, ChromOrder, Rec};
-use bt_lines::{Fault, Kind, Out, ScriptSink};
+use bt_lines::{Fault, Kind, ScriptSink};
 use bt_sweep::{HitRule, Shape};
 use std::alloc::Global;
 use std::collections::VecDeque;
@@ -213,16 +213,13 @@ fn list(
     alloc: Global,
     listing: Listing,
     good: Option<usize>,
-) -> Result<(Result<(), Fault>, ScriptSink), Fail> {
-    let first = read(alloc, &ByteOrder, FIRST)?;
-    let second = read(alloc, &ByteOrder, SECOND)?;
-    let mut out = Out::new(ScriptSink::new(alloc, 7, good));
-    let put = put_hits_by_bins(alloc, &ByteOrder, listing, &first, second, &mut out);
-    let ended = match put {
-        Ok(()) => out.flush(),
-        Err(fault) => Err(fault),
+) -> Result<(Option<Fault>, ScriptSink), Fail> {
+    let records = BothRecords {
+        first: read(alloc, &ByteOrder, FIRST)?,
+        second: read(alloc, &ByteOrder, SECOND)?,
     };
-    Ok((ended, out.into_sink()))
+    let sink = ScriptSink::new(alloc, 7, good);
+    Ok(list_hits(alloc, &ByteOrder, listing, records, sink))
 }
 
 // A shape, a rule, and what bedtools writes.
@@ -246,7 +243,7 @@ fn hits_come_as_bedtools_writes_them(rt: HostRuntime) -> Result<(), Fail> {
             rule: *rule,
         };
         let (ended, sink) = list(rt.alloc(), listing, None)?;
-        assert_eq!(rt; ended, Ok(()));
+        assert_eq!(rt; ended, None);
         assert_eq!(rt; sink.taken(), *want, "{shape:?} {rule:?}");
     }
     Ok(())
@@ -260,9 +257,7 @@ fn a_failed_write_cuts_the_lines_off(rt: HostRuntime) -> Result<(), Fail> {
             rule: HitRule::any_overlap(),
         };
         let (ended, sink) = list(rt.alloc(), listing, Some(good))?;
-        let Err(fault) = ended else {
-            return Err(Fail::from("a fault"));
-        };
+        let fault = ended.ok_or("a fault")?;
         assert_eq!(rt; (fault.kind, sink.taken()), (Kind::WriteFailed, &ORIG_BOTH[..good]));
     }
     Ok(())

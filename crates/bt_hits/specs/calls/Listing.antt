@@ -1,10 +1,12 @@
 -- What reading a text and listing hits do.
-use Rattle.std.specs.Prelude.{◌≡◌, ◌⊎◌, ℕ, Bool, true, false, List, ◌++◌, None, Result, Ok, Err}
+use Rattle.std.specs.Prelude.{◌≡◌, ◌⊎◌, ℕ, Bool, true, false, List, ◌++◌, Option, None, Some, Result, Ok, Err}
+use Rattle.std.specs.Io.KnownBytes.{Appends}
+use Rattle.bt_lines.specs.declared.device.Sink.{Ghosts as Sink}
 use Rattle.bt_lines.specs.declared.fault.Input.{Input}
 use Rattle.bt_lines.specs.declared.fault.Fault.{Fault}
-use Rattle.bt_lines.specs.calls.Faults.{no_memory}
+use Rattle.bt_lines.specs.calls.Faults.{no_memory, write_failed}
 use Rattle.bt_lines.specs.calls.Names.{fault_value}
-use Rattle.bt_lines.specs.calls.Output.{FailsToAdd, Grown, Output}
+use Rattle.bt_lines.specs.calls.Output.{FailsToAdd, Grown, IsPrefixOf, Output}
 use Rattle.bt_lines.specs.model.Fault.{FaultValue}
 use Rattle.bt_lines.specs.model.Lines.{whole_text}
 use Rattle.bt_bed.specs.model.Feature.{Feature}
@@ -26,6 +28,13 @@ has_line_each CutAndB = true
 has_line_each OrigBoth = true
 has_line_each Overlap = true
 has_line_each _ = false
+
+-- what writing hits does to a sink: it took them all, or a prefix of them until a write failed or memory ran out
+abbrev pub WritesHits : {K : Type 0} → Sink K → K → List ℕ → Option FaultValue → K → Type 0
+WritesHits sink before lines None after =
+    Appends (sink.took before) (sink.took after) lines × (sink.is_flushed after ≡ true)
+WritesHits sink before lines (Some fault) after =
+    ((fault ≡ write_failed) ⊎ (fault ≡ no_memory)) × IsPrefixOf (sink.took after) (sink.took before) lines
 
 -- what listing hits does to an output: memory may run out after the lines of some records, or a write fails
 pub record CutsOff (old : Output) (lines : List ℕ) (fault : FaultValue) (new : Output) : Type 0 where
