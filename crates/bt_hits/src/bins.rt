@@ -10,6 +10,7 @@ pub(crate) const LEVELS: usize = 7;
 
 // How many bases a bin of the first level has, and how many bins of a level one of the next has.
 const FIRST: u64 = 16_384;
+
 const NEXT: u64 = 8;
 
 // The level of the smallest bin that has all of a record, or how many levels there are if none has.

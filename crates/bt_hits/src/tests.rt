@@ -34,7 +34,7 @@ const SECOND: &[u8] = b"\
     chr2\t0\t6\ts6\t0\t-\n\
     chr2\t0\t6\ts7\t0\t-\n";
 
-// bedtools intersect 
+// bedtools intersect
 #[rattlefmt::skip]
 const CUT: &[u8] = b"\
     chr1\t100\t150\ta1\t0\t+\n\
@@ -234,7 +234,11 @@ fn hits_come_as_bedtools_writes_them(rt: HostRuntime) -> Result<(), Fail> {
         (Shape::CutAndB, any, CUT_AND_B),
         (Shape::Overlap, any, OVERLAP),
         (Shape::OrigBoth, rule(500_000_000, false, false), HALF),
-        (Shape::OrigBoth, rule(1_000_000, true, false), BOTH_BY_A_THOUSANDTH),
+        (
+            Shape::OrigBoth,
+            rule(1_000_000, true, false),
+            BOTH_BY_A_THOUSANDTH,
+        ),
         (Shape::OrigBoth, rule(0, false, true), ONE_STRAND),
     ];
     for (shape, rule, want) in &rows {
@@ -258,7 +262,10 @@ fn a_failed_write_cuts_the_lines_off(rt: HostRuntime) -> Result<(), Fail> {
         };
         let (ended, sink) = list(rt.alloc(), listing, Some(good))?;
         let fault = ended.ok_or("a fault")?;
-        assert_eq!(rt; (fault.kind, sink.taken()), (Kind::WriteFailed, &ORIG_BOTH[..good]));
+        assert_eq!(rt;
+            (fault.kind, sink.taken()),
+            (Kind::WriteFailed, &ORIG_BOTH[..good])
+        );
     }
     Ok(())
 }

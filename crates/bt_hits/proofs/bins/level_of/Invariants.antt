@@ -7,5 +7,5 @@ abbrev pub invariant-loop-level : goal.invariant-loop-level
 invariant-loop-level l = record {
   first_bin : l.first ≡ bin_at l.level l.rec.start;
   last_bin : l.last ≡ bin_at l.level (l.rec.stop - 1);
-  differ : (k : ℕ) → k < l.level → is_within_one l.rec k ≡ false
+  differ : (k : ℕ) → k < l.level → is_within_one l.rec k ≡ false;
 }

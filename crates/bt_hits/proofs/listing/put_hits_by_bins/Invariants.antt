@@ -15,5 +15,5 @@ invariant-loop-index g l = record {
   put : List ℕ;
   grown : Grown l.fn.out.output put l.out.output;
   all : put ++ intersect_by_bins l.listing.shape l.listing.rule (drop l.index l.first.items) l.fn.second.items
-      ≡ intersect_by_bins l.listing.shape l.listing.rule l.first.items l.fn.second.items
+      ≡ intersect_by_bins l.listing.shape l.listing.rule l.first.items l.fn.second.items;
 }

@@ -9,7 +9,7 @@ invariant-loop-rest g l = record {
   moved : List Feature;
   were : l.fn.rest.items ≡ moved ++ l.rest.items;
   are : l.active.items ≡ l.fn.active.items ++ moved;
-  known : KnownAll (g.O.ChromOrder.order l.order) l.rest.items
+  known : KnownAll (g.O.ChromOrder.order l.order) l.rest.items;
 }
 
 abbrev pub decreases-loop-rest : goal.decreases-loop-rest

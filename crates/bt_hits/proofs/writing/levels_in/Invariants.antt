@@ -7,5 +7,5 @@ use Rattle.bt_hits.proofs.writing.levels_in.Given as goal
 abbrev pub invariant-loop-rec : goal.invariant-loop-rec
 invariant-loop-rec l = record {
   within : l.count ≤ 8;
-  below : (k : ℕ) (d : Feature) → k < l.rec-index → level_of (get_or l.held k d) < l.count
+  below : (k : ℕ) (d : Feature) → k < l.rec-index → level_of (get_or l.held k d) < l.count;
 }
