@@ -140,6 +140,7 @@ check-front: $(PROGRAM) $(DROP_IN)
 	tests/drop_in/front_streams.py
 	tests/drop_in/front_random.py
 	tests/drop_in/front_rules.py
+	tests/drop_in/front_warnings.py
 	tests/drop_in/front_costs.py
 	tests/drop_in/front.py
 

@@ -25,6 +25,7 @@ VARIABLES = {
     "DUNEKETTLE_HINTS=0": "dunekettle gives no hints, and becomes the program",
     "DUNEKETTLE_TELL=1": "the drop-in says which program runs a call, and why; a path instead of 1 names a file for it,"
                          " which report reads",
+    "DUNEKETTLE_WARN=0": "the drop-in doesn't warn of lines on which bedtools loses or changes output silently",
     "DUNEKETTLE_ALWAYS=1": "the drop-in never runs your bedtools",
     "DUNEKETTLE_STREAMS=1": "the drop-in takes standard input and pipes for sorted BED, without lines that bedtools"
                             " treats differently",

@@ -1,8 +1,8 @@
 //! An input that the program has opened: a file or standard input.
 
-ghost use Rattle.std.specs.Prelude.{◌≡◌, None, IfOk};
+ghost use Rattle.std.specs.Prelude.{◌≡◌, IfOk};
 ghost use Rattle.bt_lines.specs.calls.Device.{TellsFailure};
-ghost use Rattle.bt_files.specs.calls.Opened.{HandsOver, IsUnused, file_named, input_meant, opened_end_told, opened_handed, opened_has_failed};
+ghost use Rattle.bt_files.specs.calls.Opened.{HandsOver, IsUnused, file_named, input_meant, opened_handed, opened_has_failed};
 
 use crate::moved_bytes::{MovedBytes, Piece};
 use bt_lines::{DeviceFailed, FromRead, Source};
@@ -60,11 +60,7 @@ pub fn input_named(name: &str) -> Input<'_>
 }
 
 impl Source for Opened {
-    ghost left = { λ _. None };
-
     ghost has_failed = { opened_has_failed };
-
-    ghost end_told = { opened_end_told };
 
     ghost is_read = { λ before call after. TellsFailure call (opened_has_failed before) (opened_has_failed after)
         × HandsOver (opened_handed before) call (opened_handed after) };

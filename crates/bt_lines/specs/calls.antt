@@ -6,3 +6,4 @@ pub mod Output
 pub mod Reader
 pub mod Line
 pub mod Faults
+pub mod Telling

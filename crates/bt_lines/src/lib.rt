@@ -40,6 +40,7 @@ mod writer;
 pub use device::from_read::FromRead;
 pub use device::script_sink::ScriptSink;
 pub use device::script_source::ScriptSource;
+pub use device::telling::{readers_tell_their_text, scripts_tell_their_text, what_is_left_is_told};
 pub use device::to_write::ToWrite;
 pub use device::{BLOCK, DeviceFailed, Sink, Source};
 pub use fault::faults::{no_memory, write_failed};

@@ -10,5 +10,6 @@ pub mod Names
 pub mod Opening
 pub mod Original
 pub mod Versions
+pub mod Warnings
 pub mod Whys
 pub mod Words

@@ -1,6 +1,7 @@
 //! The files of a run whose inputs were looked at before.
 
 ghost use Rattle.std.specs.Prelude.{◌≡◌};
+ghost use Rattle.drop_in.specs.calls.Inputs.{kept_texts_are_told};
 
 use bt_files::{Files, Unopened};
 use bt_lines::{DeviceFailed, FromRead, Source};
@@ -30,13 +31,9 @@ impl<I> FrontInput<I> {
 }
 
 impl<I: Source> Source for FrontInput<I> {
-    ghost use Rattle.drop_in.specs.calls.Inputs.{IsFrontRead, front_end_told, front_has_failed, front_left};
-
-    ghost left = { front_left I.Source };
+    ghost use Rattle.drop_in.specs.calls.Inputs.{IsFrontRead, front_has_failed};
 
     ghost has_failed = { front_has_failed I.Source };
-
-    ghost end_told = { front_end_told I.Source };
 
     ghost is_read = { IsFrontRead I.Source };
 
@@ -54,6 +51,12 @@ impl<I: Source> Source for FrontInput<I> {
         }
     }
 }
+
+/// An input that gives a text from memory tells that text: its reads hand over the start of it, and all of it once one
+/// of them reports the end.
+pub fn kept_texts_are_told<I: Source>()
+    ensures { kept_texts_are_told I.Source }
+{}
 
 /// The files of a run: inputs that are ready, each once, in the order in which a plan opens them. The output is made by other
 /// files.

@@ -3,7 +3,8 @@
 use crate::line::Line;
 use crate::looks::ReadStream;
 use crate::original::Original;
-use crate::system::{find_original, say, tell};
+use crate::system::{find_original, say, tell, warn};
+use crate::warning::Warning;
 use crate::why::{Taker, Why};
 use bt_files::Opened;
 use bt_front::{Unpoured, pour};
@@ -24,6 +25,8 @@ pub struct Call<'c> {
 pub struct Cause<'c> {
     pub why: Why,
     pub name: &'c str,
+    /// What is said of a line of that input before bedtools reads it.
+    pub warning: Option<Warning>,
 }
 
 /// Who takes a stream: the bedtools of this path, in place of this word of the call.
@@ -43,6 +46,7 @@ impl Call<'_> {
         match find_original(self.rt) {
             Original::Named(path) => {
                 self.tell_cause(path.as_str(), cause);
+                self.warn(cause);
                 self.said(&mut pipe, &Line::Original(path.as_str()))
             }
             Original::Missing | Original::Unclear => self.said(&mut pipe, &Line::Shell),
@@ -59,6 +63,7 @@ impl Call<'_> {
     ) -> u8 {
         let mut pipe = pipe;
         self.tell_cause(heir.path, cause);
+        self.warn(cause);
         if stream.kept.is_empty() && stream.source.failed() {
             return self.said(&mut pipe, &Line::Original(heir.path));
         }
@@ -84,9 +89,22 @@ impl Call<'_> {
         }
     }
 
+    // Says on which line bedtools loses or changes output silently.
+    fn warn(&self, cause: Cause<'_>) {
+        let Some(warning) = cause.warning else {
+            return;
+        };
+        let Warning { line, silent } = warning;
+        let name = cause.name;
+        let text = silent.text();
+        if let Ok(said) = format!(in self.rt.alloc(); "dunekettle: {name}:{line} {text}\n") {
+            warn(self.rt, said.as_str());
+        }
+    }
+
     // Tells who takes the call and why.
     fn tell_cause(&self, path: &str, cause: Cause<'_>) {
-        let Cause { why, name } = cause;
+        let Cause { why, name, .. } = cause;
         let command = match self.words.first() {
             Some(word) => word.as_str(),
             None => "it",

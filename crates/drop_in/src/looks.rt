@@ -2,7 +2,7 @@
 
 ghost use Rattle.std.specs.Prelude.{◌≡◌, IfErr, IfOk};
 ghost use Rattle.drop_in.specs.calls.Looks.{LeavesFile, LeavesStream, SeesFile, SeesStream, SurveysStream};
-ghost use Rattle.drop_in.specs.calls.Whys.{file_why, stream_why};
+ghost use Rattle.drop_in.specs.calls.Whys.{file_why, stream_why, text_why};
 
 use crate::opening::{OpenedFile, open};
 use crate::why::Why;
@@ -55,19 +55,19 @@ pub fn look_at_file<I: Source + Drop>(
         for_survey,
         for_run,
     } = file;
-    let (surveyed, _source) = Survey::read(alloc, for_survey);
+    let (surveyed, source) = Survey::read(alloc, for_survey);
     match surveyed {
         Ok(survey) => Ok(Seen {
             survey,
             reading: Reading::File(for_run),
         }),
-        Err(trouble) => Err(file_why(input, trouble)),
+        Err(trouble) => Err(file_why(input, trouble, source.failed())),
     }
 }
 
-// Why a file is left.
-fn file_why(input: Input, trouble: Trouble) -> Why
-    ensures { result ≡ file_why input trouble }
+// Why a file is left, of which a read has failed or not.
+fn file_why(input: Input, trouble: Trouble, has_failed: bool) -> Why
+    ensures { result ≡ file_why input trouble has_failed }
 {
     match trouble {
         Trouble::Odd(
@@ -76,6 +76,21 @@ fn file_why(input: Input, trouble: Trouble) -> Why
                 ..
             },
         ) => Why::Zipped(input),
+        _ => text_why(input, trouble, has_failed),
+    }
+}
+
+// Why a text is left. If reading failed, and its source didn't, there was no memory.
+fn text_why(input: Input, trouble: Trouble, has_failed: bool) -> Why
+    ensures { result ≡ text_why input trouble has_failed }
+{
+    match trouble {
+        Trouble::Refused(
+            Fault {
+                kind: Kind::ReadFailed,
+                ..
+            },
+        ) if !has_failed => Why::NoMemory,
         _ => Why::Text(input, trouble),
     }
 }
@@ -102,15 +117,20 @@ pub fn look_at_stream<F: Files>(
             reading: Reading::Stream(stream),
         }),
         Err(trouble) => Err(Left {
-            why: stream_why(input, trouble, room < stream.kept.len()),
+            why: stream_why(
+                input,
+                trouble,
+                room < stream.kept.len(),
+                stream.source.failed(),
+            ),
             stream: Some(stream),
         }),
     }
 }
 
 // Why a stream is left. A long one isn't read on.
-fn stream_why(input: Input, trouble: Trouble, is_long: bool) -> Why
-    ensures { result ≡ stream_why input trouble is_long }
+fn stream_why(input: Input, trouble: Trouble, is_long: bool, has_failed: bool) -> Why
+    ensures { result ≡ stream_why input trouble is_long has_failed }
 {
     match trouble {
         Trouble::Refused(
@@ -119,7 +139,7 @@ fn stream_why(input: Input, trouble: Trouble, is_long: bool) -> Why
                 ..
             },
         ) if is_long => Why::LongStream,
-        _ => Why::Text(input, trouble),
+        _ => text_why(input, trouble, has_failed),
     }
 }
 

@@ -30,6 +30,9 @@ mod programs;
 mod system;
 mod system_programs;
 mod versions;
+mod warning;
+#[cfg(test)]
+mod warning_tests;
 mod why;
 mod words;
 
@@ -40,7 +43,6 @@ use bt_tool::Plan;
 use front_files::FrontInput;
 use hits::Listed;
 use leaving::{Call, Cause, Heir};
-use naming::is_of_standard_input;
 use opening::Streams;
 use original::Original;
 use std::env::Env;
@@ -50,8 +52,9 @@ use std::{env, io};
 use system::{DropInFiles, find_original, fit_room, open_pipe, room, streams_of, writes_to_pipe};
 use system_programs::SystemPrograms;
 use versions::{is_for_any_version, is_known_version};
+use warning::Case;
 use why::Why;
-use words::{Request, option_of, value_place};
+use words::{Request, option_of, stream_word};
 
 // The status of a run whose output has no reader any more.
 const GONE: u8 = 121;
@@ -107,7 +110,11 @@ fn call_words(rt: &HostRuntime) -> io::Result<Vec<String>> {
 
 // A cause that no input is.
 fn cause_of(why: Why) -> Cause<'static> {
-    Cause { why, name: "" }
+    Cause {
+        why,
+        name: "",
+        warning: None,
+    }
 }
 
 fn answer_call(call: &Call<'_>, pipe: File) -> u8 {
@@ -144,7 +151,7 @@ fn why_unknown(rt: &HostRuntime, request: &Request) -> Option<Why> {
 
 // Answers a call without a stream.
 fn answer_files(call: &Call<'_>, pipe: File, request: Request, streams: Streams) -> u8 {
-    let Ok(names) = InputNames::of(call.rt, &request.plan) else {
+    let Ok(names) = InputNames::of(call.rt, &request) else {
         return call.leave(pipe, cause_of(Why::NoMemory));
     };
     let Some(room) = room(call.rt) else {
@@ -162,13 +169,7 @@ fn answer_files(call: &Call<'_>, pipe: File, request: Request, streams: Streams)
     match answered {
         Answered::Took(finished) => end(call.rt, finished),
         Answered::Listed(listed) => end_listed(call.rt, listed),
-        Answered::Left(left) => call.leave(
-            files.pipe,
-            Cause {
-                why: left.why,
-                name: names.about(left.why),
-            },
-        ),
+        Answered::Left(left) => call.leave(files.pipe, names.cause(left.why)),
     }
 }
 
@@ -183,10 +184,12 @@ fn answer_stream(
     let Some(room) = room(call.rt) else {
         return call.leave(pipe, cause_of(Why::Room));
     };
-    let Ok(names) = InputNames::of(call.rt, &request.plan) else {
+    let Ok(names) = InputNames::of(call.rt, &request) else {
         return call.leave(pipe, cause_of(Why::NoMemory));
     };
-    let word = stream_word(call.words, &request.plan, streams.second);
+    let Some(word) = word_of(call.words, &request.plan, streams.second) else {
+        return call.leave(pipe, cause_of(Why::NoWord));
+    };
     let files = DropInFiles {
         system: SystemFiles { rt: call.rt },
         pipe,
@@ -197,10 +200,7 @@ fn answer_stream(
         Answered::Took(finished) => end(call.rt, finished),
         Answered::Listed(listed) => end_listed(call.rt, listed),
         Answered::Left(left) => {
-            let cause = Cause {
-                why: left.why,
-                name: names.about(left.why),
-            };
+            let cause = names.cause(left.why);
             match left.stream {
                 Some(stream) => call.leave_stream(files.pipe, cause, Heir { path, word }, stream),
                 None => call.leave(files.pipe, cause),
@@ -209,21 +209,37 @@ fn answer_stream(
     }
 }
 
-// The names of a plan's inputs, kept beside it.
+// The names of a plan's inputs, kept beside it, and what decides what bedtools does with their lines.
 #[derive(Drop)]
 struct InputNames {
     genome: String,
     first: String,
     second: String,
+    case: Case,
 }
 
 impl InputNames {
-    fn of(rt: &HostRuntime, plan: &Plan) -> io::Result<InputNames> {
+    fn of(rt: &HostRuntime, request: &Request) -> io::Result<InputNames> {
+        let plan = &request.plan;
         Ok(InputNames {
             genome: copy_of(rt, &plan.genome)?,
             first: String::from_str(rt.alloc(), plan.first.as_str())?,
             second: copy_of(rt, &plan.second)?,
+            case: Case {
+                command: plan.command,
+                is_sorted: request.is_sorted,
+                has_genome: plan.genome.is_some(),
+            },
         })
+    }
+
+    // The cause of a call that is left.
+    fn cause(&self, why: Why) -> Cause<'_> {
+        Cause {
+            why,
+            name: self.about(why),
+            warning: self.case.warning(why),
+        }
     }
 
     // The name of the input that is the cause, or no text.
@@ -244,16 +260,13 @@ fn copy_of(rt: &HostRuntime, name: &Option<String>) -> io::Result<String> {
     }
 }
 
-// The word of the call that the stream replaces, 0 if it is standard input by its name.
-fn stream_word(words: &[String], plan: &Plan, is_second: bool) -> usize {
+// The word of the call that the stream replaces.
+fn word_of(words: &[String], plan: &Plan, is_second: bool) -> Option<usize> {
     let (name, input) = match &plan.second {
         Some(second) if is_second => (second.as_str(), Input::Second),
         _ => (plan.first.as_str(), Input::First),
     };
-    if is_of_standard_input(name) {
-        return 0;
-    }
-    value_place(words, option_of(plan.command, input)).unwrap_or(0)
+    stream_word(words, option_of(plan.command, input), name)
 }
 
 // How a call that was run ends.

@@ -129,6 +129,16 @@ pub fn tell(rt: &HostRuntime, text: &str) {
     }
 }
 
+/// Writes a line to standard error, unless DUNEKETTLE_WARN is 0.
+pub fn warn(rt: &HostRuntime, line: &str) {
+    match env::var(rt, "DUNEKETTLE_WARN") {
+        Ok(to) if to.as_str() == "0" => {}
+        _ => {
+            let _ = rt.stderr().write_all(line.as_bytes());
+        }
+    }
+}
+
 // A named pipe that is opened for both doesn't wait for a reader.
 fn open_told(rt: &HostRuntime, name: &str) -> io::Result<File> {
     let is_pipe = match fs::metadata(rt, name) {

@@ -47,6 +47,8 @@ pub enum Why {
     GenomeStream,
     /// An input is a stream, and no bedtools could take it.
     NoOriginal,
+    /// The name of a stream isn't the value of its option.
+    NoWord,
     /// The room for a stream is no number.
     Room,
     /// A stream has more bytes than there is room for.
@@ -77,6 +79,7 @@ impl Why {
             | Why::TwoStreams
             | Why::GenomeStream
             | Why::NoOriginal
+            | Why::NoWord
             | Why::Room
             | Why::Zipped(_) => Taker::Shell,
             _ => Taker::Original,
@@ -117,6 +120,7 @@ impl Why {
             Why::TwoStreams => "two of its inputs are streams",
             Why::GenomeStream => "it is a stream",
             Why::NoOriginal => "there is no other bedtools on PATH",
+            Why::NoWord => "no word is the name of its stream",
             Why::LongStream => "its stream is long",
             Why::Room => "DUNEKETTLE_ROOM is no number",
             Why::Zipped(_) => "it begins as a gzip file",

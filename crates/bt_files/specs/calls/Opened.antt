@@ -47,12 +47,10 @@ abbrev pub HandsOver : List ℕ → Option (List ℕ) → List ℕ → Type 0
 HandsOver before None after = after ≡ before
 HandsOver before (Some bytes) after = after ≡ before ++ bytes
 
--- an input as a source: what bytes it still has isn't known
+-- an input as a source
 abbrev pub opened_source : Source Opened
 opened_source = record {
-  left = λ _. None;
   has_failed = opened_has_failed;
-  end_told = opened_end_told;
   is_read = λ before call after. TellsFailure call (opened_has_failed before) (opened_has_failed after)
       × HandsOver (opened_handed before) call (opened_handed after);
 }

@@ -1,7 +1,7 @@
 -- A stream that is kept as it is read, and what becomes of it where another program takes it.
 use Rattle.std.specs.Prelude.{◌≡◌, ◌⊎◌, Bool, true, ℕ, List, ◌++◌, Option, Some, None}
 use Rattle.std.specs.Io.KnownBytes.{Appends}
-use Rattle.bt_lines.specs.calls.Device.{FailsAfter, ReadsOn}
+use Rattle.bt_lines.specs.calls.Device.{EndsAfter, FailsAfter, ReadsOn}
 use Rattle.bt_lines.specs.calls.Output.{Output}
 use Rattle.bt_lines.specs.declared.device.Source.{Ghosts as Source}
 use Rattle.bt_front.specs.declared.stream.keeping.Keeping.{Keeping}
@@ -38,8 +38,7 @@ module _ {S : Type 0} (source : Source S) where
   -- The taker got what was kept, and then all that the stream gave up to its end.
   pub record IsPoured (kept : List ℕ) (before : S) (taker : Output) (after : S) (new_taker : Output) : Type 0 where
     pub bytes : List ℕ
-    pub served : ReadsOn source.is_read before bytes after
-    pub ended : source.end_told after ≡ true
+    pub served : EndsAfter source.is_read before bytes after
     pub taken : Appends taker.put new_taker.took (kept ++ bytes)
 
   -- The stream failed, or wasn't read to its end. The taker got what was kept, and what the stream gave before.

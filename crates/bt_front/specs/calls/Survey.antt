@@ -2,7 +2,7 @@
 use Rattle.std.specs.Prelude.{ℕ, Bool, ◌≡◌, ◌⊎◌, true, false, List, [], ◌∷◌, ◌++◌, map, Some, Result, Ok, Err}
 use Rattle.std.specs.List.{list_all}
 use Rattle.bt_lines.specs.declared.device.Source.{Ghosts as Source}
-use Rattle.bt_lines.specs.calls.Device.{FailsAfter, ReadsOn}
+use Rattle.bt_lines.specs.calls.Device.{EndsAfter, FailsAfter, ReadsOn, TellsText}
 use Rattle.bt_lines.specs.calls.Names.{fault_value}
 use Rattle.bt_bed.specs.model.Feature.{Feature, intervals_of}
 use Rattle.bt_bed.specs.model.Good.{Good, Member}
@@ -58,15 +58,11 @@ IsTroubleOf text (ComesBack line) = IsTroubleIn (read_of text) (ComesBack line)
 module _ {S : Type 0} (device : Source S) (before after : S) where
   -- all that the source had was read, and this is said of it
   pub record Surveys (survey : Survey) : Type 0 where
-    -- the bytes that the reads of the call handed over; each served
+    -- the bytes that the reads of the call handed over; each served, and the last one reported the end
     pub bytes : List ℕ
-    pub served : ReadsOn device.is_read before bytes after
-    -- the end was reported
-    pub told : device.end_told after ≡ true
+    pub told : EndsAfter device.is_read before bytes after
     -- they are as the survey says, whatever the source
     pub is : IsSurveyOf bytes survey
-    -- and if it is known what was left, that was read
-    pub known : (text : List ℕ) → device.left before ≡ Some text → text ≡ bytes
 
   -- something leaves the text to bedtools
   pub record LeavesText (trouble : Trouble) : Type 0 where
@@ -75,14 +71,18 @@ module _ {S : Type 0} (device : Source S) (before after : S) where
     pub handed : ReadsOn device.is_read before bytes after ⊎ FailsAfter device.is_read before bytes after
     -- whether the end was reported to the call
     pub ended : Bool
-    pub told : ended ≡ true → device.end_told after ≡ true
+    pub told : ended ≡ true → EndsAfter device.is_read before bytes after
     -- whatever may still follow them, the text has this trouble
     pub is : (rest : List ℕ) → (ended ≡ true → rest ≡ []) → IsTroubleOf (bytes ++ rest) trouble
-    -- and if it is known what was left, they come first in it
-    pub known : (text : List ℕ) → device.left before ≡ Some text
-        → (rest : List ℕ) × (text ≡ bytes ++ rest) × (ended ≡ true → rest ≡ [])
 
   -- what a call tells
   abbrev pub ReadsSurvey : Result Survey Trouble → Type 0
   ReadsSurvey (Ok survey) = Surveys survey
   ReadsSurvey (Err trouble) = LeavesText trouble
+
+-- If a source tells its text, a survey is of all of it, and the bytes that leave it to bedtools come first in it.
+abbrev pub surveys_tell_the_text : {S : Type 0} → Source S → Type 0
+surveys_tell_the_text {S} device = (before after : S) (text : List ℕ) → TellsText device.is_read before text
+    → ((survey : Survey) (surveys : Surveys device before after survey) → text ≡ surveys.bytes)
+    × ((trouble : Trouble) (leaves : LeavesText device before after trouble)
+    → (rest : List ℕ) × (text ≡ leaves.bytes ++ rest) × (leaves.ended ≡ true → rest ≡ []))

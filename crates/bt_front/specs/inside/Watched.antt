@@ -55,8 +55,6 @@ module _ {S : Type 0} where
 -- the ghost members of a watched source, as one record
 abbrev pub watched_source : {S : Type 0} → Source S → Source (Watched S)
 watched_source device = record {
-  left = λ watched. device.left watched.source;
   has_failed = λ watched. watched.has_stopped || device.has_failed watched.source;
-  end_told = λ watched. device.end_told watched.source;
   is_read = IsWatchedRead device.is_read;
 }

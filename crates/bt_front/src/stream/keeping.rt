@@ -61,11 +61,7 @@ impl<S> Keeping<S> {
 impl<S: Source> Source for Keeping<S> {
     ghost use Rattle.bt_front.specs.calls.Stream.{IsKeptRead, has_stopped, source_of};
 
-    ghost left = { λ s. S.left (source_of s) };
-
     ghost has_failed = { has_stopped };
-
-    ghost end_told = { λ s. S.end_told (source_of s) };
 
     ghost is_read = { IsKeptRead S.is_read };
 

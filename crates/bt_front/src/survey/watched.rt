@@ -89,11 +89,7 @@ impl<S: Source> Source for Watched<S> {
     ghost use Rattle.std.specs.Prelude.{◌||◌};
     ghost use Rattle.bt_front.specs.inside.Watched.{IsWatchedRead};
 
-    ghost left = { λ watched. S.left watched.source };
-
     ghost has_failed = { λ watched. watched.has_stopped || S.has_failed watched.source };
-
-    ghost end_told = { λ watched. S.end_told watched.source };
 
     ghost is_read = { IsWatchedRead S.is_read };
 

@@ -1,6 +1,6 @@
 -- What calls of devices do: any, those of std, and those that play a script.
 use Rattle.std.specs.Prelude.{◌≡◌, ℕ, ◌+◌, Bool, true, false, ◌||◌, ◌&&◌, List, [], ◌++◌, length, take, drop, ◌==◌, nat_lt, Option, Some, None, Result, Ok, Err, MatchResult, ◌-◌, min, nat_le}
-use Rattle.std.specs.Io.KnownBytes.{Consumes, Keeps}
+use Rattle.std.specs.Io.KnownBytes.{Consumes, IsAtEnd, Keeps}
 use Rattle.bt_lines.specs.declared.device.from_read.FromRead.{FromRead}
 use Rattle.bt_lines.specs.declared.device.to_write.ToWrite.{ToWrite}
 
@@ -22,10 +22,10 @@ abbrev pub TellsFailure : Option (List ℕ) → Bool → Bool → Type 0
 TellsFailure None had_failed has_failed = has_failed ≡ true
 TellsFailure (Some bytes) had_failed has_failed = (had_failed ≡ false) × (has_failed ≡ false)
 
--- what a read does to the bytes that are left, if they are known
+-- what a read does to the bytes that are left, if they are known; it hands over none only if none is left
 abbrev pub Gives : Option (List ℕ) → Option (List ℕ) → Option (List ℕ) → Type 0
 Gives old None new = Keeps old new
-Gives old (Some bytes) new = Consumes old new bytes
+Gives old (Some bytes) new = Consumes old new bytes × (bytes ≡ [] → IsAtEnd new)
 
 -- Reads that succeeded took the first source to the other, and handed over these bytes in all.
 pub data ReadsOn {S : Type 0} (IsRead : S → Option (List ℕ) → S → Type 0) (first : S)
@@ -47,6 +47,15 @@ module _ {S : Type 0} (IsRead : S → Option (List ℕ) → S → Type 0) where
     pub served : ReadsOn IsRead old bytes before
     pub tells : IsRead before (Some []) new
 
+  -- A source tells its whole text, what of it was handed over, and whether its end was told by an answer of 0: this text
+  -- is what is left of it.
+  pub record TellsText (source : S) (text : List ℕ) : Type 0 where
+    -- what its reads hand over is the start of the text, also if one fails after them
+    pub hands : (bytes : List ℕ) (after : S) → ReadsOn IsRead source bytes after
+        → (rest : List ℕ) × (text ≡ bytes ++ rest)
+    -- and all of it, if the last one reports the end
+    pub ends : (bytes : List ℕ) (after : S) → EndsAfter source bytes after → text ≡ bytes
+
 -- What the adapters of std's readers and writers hold.
 
 -- the reader below the source
@@ -56,6 +65,17 @@ reader_of s = s.reader
 -- whether the reader has failed
 abbrev pub read_has_failed : {R : Type 0} → FromRead R → Bool
 read_has_failed s = s.has_failed
+
+-- a read of the reader failed, or handed over bytes, which a reader that knows its rest loses
+abbrev pub IsReaderRead : {R : Type 0} → (R → Option (List ℕ)) → FromRead R → Option (List ℕ) → FromRead R → Type 0
+IsReaderRead remaining before call after =
+    TellsFailure call (read_has_failed before) (read_has_failed after)
+    × Gives (remaining (reader_of before)) call (remaining (reader_of after))
+
+-- a source over a reader that knows its rest tells it as its text
+abbrev pub readers_tell_their_text : {R : Type 0} → (R → Option (List ℕ)) → Type 0
+readers_tell_their_text {R} remaining = (source : FromRead R) (text : List ℕ)
+    → remaining (reader_of source) ≡ Some text → TellsText (IsReaderRead remaining) source text
 
 -- whether the reader reported its end
 abbrev pub read_end_told : {R : Type 0} → FromRead R → Bool
@@ -96,6 +116,10 @@ IsScriptRead before None after =
 IsScriptRead before (Some bytes) after =
     (after.given ≡ before.given + length bytes) × (after.has_failed ≡ before.has_failed)
     × Gives (script_left before) (Some bytes) (script_left after)
+
+-- a script tells the bytes that it hasn't given as its text
+abbrev pub scripts_tell_their_text : Type 0
+scripts_tell_their_text = (source : Reading) → TellsText IsScriptRead source (drop source.given source.bytes)
 
 -- a sink that takes at most step bytes a call, and fails once good bytes were taken
 pub record Writing : Type 0 where

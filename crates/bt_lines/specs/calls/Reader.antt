@@ -1,11 +1,10 @@
 -- What a reader of lines holds, what its calls do, and the lines that are left of those buffered.
-use Rattle.std.specs.Prelude.{◌≡◌, ℕ, suc, ◌+◌, ◌-◌, ◌≤◌, Bool, true, false, List, ◌∷◌, drop, length, nat_lt, take, ◌^◌, ◌<◌, ◌⊎◌, [], ◌++◌, Option, Some, None, Result, Ok, Err, IfSome, IsSome, ⊤, vec_capacity}
+use Rattle.std.specs.Prelude.{◌≡◌, ℕ, suc, ◌+◌, ◌-◌, ◌≤◌, Bool, true, false, List, ◌∷◌, drop, length, nat_lt, take, ◌^◌, ◌<◌, ◌⊎◌, [], ◌++◌, Option, Some, None, Result, Ok, Err, IsSome, ⊤, vec_capacity}
 use Rattle.bt_lines.specs.calls.Line.{Shown, ending_at, line_seen, line_feeds}
 use Rattle.bt_lines.specs.model.Lines.{TextLine, lines_from, whole_lines_from, bytes_in, spelled}
 use Rattle.bt_lines.specs.inside.Shape.{is_fed, held_at}
 use Rattle.bt_lines.specs.declared.reader.buffered_lines.BufferedLines.{BufferedLines}
 use Rattle.bt_lines.specs.declared.reader.buffered_lines.ConsumedLines.{ConsumedLines}
-use Rattle.std.specs.Io.KnownBytes.{Consumes, IsAtEnd}
 use Rattle.bt_lines.specs.declared.device.Source.{Ghosts as Source}
 use Rattle.bt_lines.specs.inside.ReadBuffer.{complete, unread, ended_at, fault_at, open_at, taken_at, told_at}
 use Rattle.bt_lines.specs.calls.Device.{EndsAfter, FailsAfter, ReadsOn}
@@ -127,9 +126,6 @@ module _ {S : Type 0} where
   -- what holds of a reader whose lines are given one at a time: `new` establishes it, and `next` keeps it; `fill` and
   -- `consume` keep `IsKept`
   pub record IsSound (device : Source S) (reader : LineReader S) : Type 0 where
-    -- once the end was reported to a reader, its source has reported it, and none of the known bytes is left
-    pub end : end_told reader ≡ true
-        → (device.end_told (source_of reader) ≡ true) × IsAtEnd (device.left (source_of reader))
     -- without a fault, fewer than 2^63 bytes were taken
     pub within : fault_kept reader ≡ None → bytes_taken reader < 2 ^ 63
     -- without a fault, at most a block is held after the lines given
@@ -142,11 +138,6 @@ module _ {S : Type 0} where
       (ReadsOn device.is_read (source_of old) bytes (source_of new)
       × (fault_kept old ≡ None → IsReadFailed (fault_kept new) → 2 ^ 63 ≤ bytes_taken new))
       ⊎ (FailsAfter device.is_read (source_of old) bytes (source_of new) × IsReadFailed (fault_kept new))
-
-  -- Once the end was reported, nothing is handed over. If it is reported now, known bytes were all handed over.
-  unfoldable pub EndsKnown : Source S → LineReader S → List ℕ → LineReader S → Type 0
-  EndsKnown device old bytes new = (end_told old ≡ true → bytes ≡ [])
-      × (end_told old ≡ false → end_told new ≡ true → IfSome (device.left (source_of old)) (λ text. text ≡ bytes))
 
   -- Once the end was reported, nothing is read. If it is reported now, the last read handed over no bytes. After a fault
   -- it isn't.
@@ -162,10 +153,9 @@ module _ {S : Type 0} where
     -- after a fault nothing is read, and it is kept
     pub stops : IsSome (fault_kept old)
         → (bytes ≡ []) × (source_of new ≡ source_of old) × (fault_kept new ≡ fault_kept old)
-    pub ends : EndsKnown device old bytes new
+    -- once the end was reported, nothing is handed over
+    pub ends : end_told old ≡ true → bytes ≡ []
     pub ends_reads : EndsReads device old bytes new
-    -- known bytes lose them
-    pub left_over : Consumes (device.left (source_of old)) (device.left (source_of new)) bytes
     pub counted : bytes_taken new ≡ bytes_taken old + length bytes
     pub same_input : input_of new ≡ input_of old
     -- line feeds are counted as bytes are, unless the end was reported or the text passed the bound
@@ -293,8 +283,6 @@ module _ {S : Type 0} where
 
   -- what holds of a reader at all times, except how much it has buffered
   pub record IsKept (device : Source S) (reader : LineReader S) : Type 0 where
-    pub end : end_told reader ≡ true
-        → (device.end_told (source_of reader) ≡ true) × IsAtEnd (device.left (source_of reader))
     pub within : fault_kept reader ≡ None → bytes_taken reader < 2 ^ 63
 
   -- a call of `fill`

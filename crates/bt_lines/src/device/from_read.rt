@@ -1,8 +1,8 @@
 //! A reader of std as a source.
 
-ghost use Rattle.std.specs.Prelude.{◌≡◌, ℕ, ◌≤◌, false, true, IsTrue, IsErr, length, IfOk, OnOk, OnErr};
+ghost use Rattle.std.specs.Prelude.{◌≡◌, ℕ, ◌<◌, ◌≤◌, false, true, IsTrue, IsErr, length, IfOk, OnOk, OnErr};
 ghost use Rattle.std.specs.Io.KnownBytes.{ReadConsumes};
-ghost use Rattle.bt_lines.specs.calls.Device.{Gives, TellsEnd, TellsFailure, call_of, reader_of, read_has_failed, read_end_told};
+ghost use Rattle.bt_lines.specs.calls.Device.{IsReaderRead, TellsEnd, call_of, reader_of, read_has_failed, read_end_told};
 
 use crate::device::{DeviceFailed, Source};
 use std::io::Read;
@@ -43,14 +43,9 @@ impl<R> FromRead<R> {
 }
 
 impl<R: Read> Source for FromRead<R> {
-    ghost left = { λ s. R.remaining (reader_of s) };
-
     ghost has_failed = { read_has_failed };
 
-    ghost end_told = { read_end_told };
-
-    ghost is_read = { λ before call after. TellsFailure call (read_has_failed before) (read_has_failed after)
-        × Gives (R.remaining (reader_of before)) call (R.remaining (reader_of after)) };
+    ghost is_read = { IsReaderRead R.remaining };
 
     fn read(&mut self, block: &mut [u8]) -> Result<usize, DeviceFailed>
         ensures within { IfOk result (λ n. n ≤ length block.new) }
@@ -58,8 +53,7 @@ impl<R: Read> Source for FromRead<R> {
             (R.remaining (reader_of self.new)) result block.new }
         ensures served { OnOk result (read_has_failed self.new ≡ read_has_failed self.old) }
         ensures failed { OnErr result (read_has_failed self.new ≡ true) }
-        ensures handed { TellsFailure (call_of result block.new) (read_has_failed self.old) (read_has_failed self.new)
-            × Gives (R.remaining (reader_of self.old)) (call_of result block.new) (R.remaining (reader_of self.new)) }
+        ensures handed { 0 < length block.new → IsReaderRead R.remaining self.old (call_of result block.new) self.new }
         ensures end { TellsEnd (read_end_told self.old) (read_end_told self.new) result block.new }
         ensures for_good { IsTrue (read_has_failed self.old) → IsErr result × (self.new ≡ self.old) }
     {

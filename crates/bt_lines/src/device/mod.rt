@@ -3,11 +3,12 @@
 pub(crate) mod from_read;
 pub(crate) mod script_sink;
 pub(crate) mod script_source;
+pub(crate) mod telling;
 pub(crate) mod to_write;
 
 ghost use Rattle.std.specs.Prelude.{◌≡◌, ℕ, ◌<◌, ◌≤◌, Bool, true, false, Option, Some, None, List, is_err, length, IfNone, IfSome, IfOk, OnOk, OnErr};
-ghost use Rattle.std.specs.Io.KnownBytes.{Keeps, ReadConsumes, WriteAppends};
-ghost use Rattle.bt_lines.specs.calls.Device.{TellsEnd, call_of, is_spent, let_through};
+ghost use Rattle.std.specs.Io.KnownBytes.{Keeps, WriteAppends};
+ghost use Rattle.bt_lines.specs.calls.Device.{call_of, is_spent, let_through};
 
 /// How many bytes a reader buffers at most, and an output holds back.
 pub const BLOCK: usize = 8192;
@@ -18,29 +19,20 @@ pub struct DeviceFailed;
 
 /// Where bytes come from.
 pub trait Source {
-    // The bytes still to come, if they are known; those that a failing source never hands over
-    // among them.
-    ghost left: { Self → Option (List ℕ) };
-
     // Whether a read has failed.
     ghost has_failed: { Self → Bool };
 
-    // Whether a read has reported the end, by returning 0 for a block with room.
-    ghost end_told: { Self → Bool };
-
-    // A read took the one source to the other and handed over these bytes, or failed if there are none to name.
-    // Only `read` gives it.
+    // A read into a block with room took the one source to the other and handed over these bytes, or failed if there
+    // are none to name. No bytes, `Some []`, report the end. Only `read` gives it.
     ghost is_read: { Self → Option (List ℕ) → Self → Type 0 };
 
     /// Hands over the next bytes, as many as it likes of those that fit the block, and 0 for a block
     /// with room only at the end. An error isn't tried again.
     fn read(&mut self, block: &mut [u8]) -> Result<usize, DeviceFailed>
         ensures within { IfOk result (λ n. n ≤ length block.new) }
-        ensures bytes { ReadConsumes (left self.old) (left self.new) result block.new }
         ensures served { OnOk result (has_failed self.new ≡ has_failed self.old) }
         ensures failed { OnErr result (has_failed self.new ≡ true) }
-        ensures handed { is_read self.old (call_of result block.new) self.new }
-        ensures end { TellsEnd (end_told self.old) (end_told self.new) result block.new };
+        ensures handed { 0 < length block.new → is_read self.old (call_of result block.new) self.new };
 
     /// Whether a read has failed. Once true, it stays so.
     fn failed(&self) -> bool

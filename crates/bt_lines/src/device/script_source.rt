@@ -85,11 +85,7 @@ fn copy_front(from: &[u8], to: &mut [u8])
 
 #[tactic(auto, using(crate::proofs::lemmas::Device::handed_on))]
 impl Source for ScriptSource<'_> {
-    ghost left = { λ s. Some (drop s.given s.bytes) };
-
     ghost has_failed = { λ s. s.has_failed };
-
-    ghost end_told = { λ s. s.end_told };
 
     ghost is_read = { IsScriptRead };
 
@@ -99,7 +95,7 @@ impl Source for ScriptSource<'_> {
             (Some (drop self.new.given self.new.bytes)) result block.new }
         ensures served { OnOk result (self.new.has_failed ≡ self.old.has_failed) }
         ensures failed { OnErr result (self.new.has_failed ≡ true) }
-        ensures handed { IsScriptRead self.old (call_of result block.new) self.new }
+        ensures handed { 0 < length block.new → IsScriptRead self.old (call_of result block.new) self.new }
         ensures end { TellsEnd self.old.end_told self.new.end_told result block.new }
 
         ensures spent { IsErr result ↔ IsTrue (is_spent self.old.good self.old.given) }

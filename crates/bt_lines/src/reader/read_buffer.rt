@@ -1,7 +1,6 @@
 //! The bytes that a reader has buffered.
 
 ghost use Rattle.std.specs.Prelude.{◌≡◌, ◌+◌, ◌-◌, ◌<◌, ◌≤◌, ◌++◌, cond, drop, length, slice_range, take, vec_capacity, IfOk, OnOk, OnErr, true};
-ghost use Rattle.std.specs.Io.KnownBytes.{Consumes, IsAtEnd, Keeps};
 ghost use Rattle.bt_lines.specs.calls.Output.{block_size};
 ghost use Rattle.bt_lines.specs.inside.Shape.{AreComplete, IsSearched};
 
@@ -128,13 +127,10 @@ impl ReadBuffer {
         requires some { 0 < most }
         requires room { length (unread self.old) < block_size }
         ensures bytes { IfOk result (λ n. n ≤ most × ((piece : List ℕ) × (n ≡ length piece)
-            × Consumes (S.left source.old) (S.left source.new) piece × (unread self.new ≡ unread self.old ++ piece)
+            × (unread self.new ≡ unread self.old ++ piece)
             × S.is_read source.old (Some piece) source.new)) }
-        ensures end { IfOk result (λ n. n ≡ 0
-            → (S.end_told source.new ≡ true) × IsAtEnd (S.left source.new)) }
         ensures served { OnOk result (S.has_failed source.new ≡ S.has_failed source.old) }
-        ensures failed { OnErr result ((S.has_failed source.new ≡ true)
-            × (unread self.new ≡ unread self.old) × Keeps (S.left source.old) (S.left source.new)) }
+        ensures failed { OnErr result ((S.has_failed source.new ≡ true) × (unread self.new ≡ unread self.old)) }
         ensures none { complete self.new ≡ [] }
         ensures plain { self.new.is_spilled ≡ false }
         ensures front { self.new.whole ≡ 0 }
@@ -306,13 +302,8 @@ fn read_behind<S: Source>(
     ensures count { IfOk result (λ n. n ≤ most) }
     ensures size { length bytes.new ≡ 8192 }
     ensures before { take from bytes.new ≡ take from bytes.old }
-    ensures bytes { IfOk result (λ n.
-        Consumes (S.left source.old) (S.left source.new) (slice_range bytes.new from (from + n))) }
-    ensures end { IfOk result (λ n. n ≡ 0
-        → (S.end_told source.new ≡ true) × IsAtEnd (S.left source.new)) }
     ensures served { OnOk result (S.has_failed source.new ≡ S.has_failed source.old) }
-    ensures failed { OnErr result ((S.has_failed source.new ≡ true)
-        × Keeps (S.left source.old) (S.left source.new)) }
+    ensures failed { OnErr result (S.has_failed source.new ≡ true) }
     ensures handed { IfOk result (λ n. S.is_read source.old (Some (slice_range bytes.new from (from + n))) source.new) }
     ensures refused { OnErr result (S.is_read source.old None source.new) }
 {

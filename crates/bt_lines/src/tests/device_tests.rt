@@ -1,4 +1,4 @@
-ghost use Rattle.std.specs.Prelude.{None, false, true, ⊤};
+ghost use Rattle.std.specs.Prelude.{None, true, ⊤};
 
 use crate::tests::output_tests::fails_again;
 use crate::tests::{Want, gives_all, gives_some, has_ended, holds};
@@ -184,24 +184,15 @@ fn a_writer_that_failed_is_asked_no_more(rt: HostRuntime) {
 #[derive(Drop)]
 struct ServesAgain {
     bytes: &'static [u8],
-    end_told: bool,
 }
 
 impl Source for ServesAgain {
-    ghost left = { λ _. None };
-
     ghost has_failed = { λ _. true };
-
-    ghost end_told = { λ s. s.end_told };
 
     ghost is_read = { λ _ _ _. ⊤ };
 
     fn read(&mut self, block: &mut [u8]) -> Result<usize, DeviceFailed> {
-        if block.is_empty() {
-            return Ok(0);
-        }
-        if self.bytes.is_empty() {
-            self.end_told = true;
+        if block.is_empty() || self.bytes.is_empty() {
             return Ok(0);
         }
         block[0] = self.bytes[0];
@@ -216,8 +207,8 @@ impl Source for ServesAgain {
 
 #[test]
 fn a_failure_of_before_is_no_failed_read(rt: HostRuntime) {
-    let (bytes, end_told) = (b"a\nb".as_slice(), false);
-    let mut reader = LineReader::new(rt.alloc(), ServesAgain { bytes, end_told }, Input::First);
+    let bytes = b"a\nb".as_slice();
+    let mut reader = LineReader::new(rt.alloc(), ServesAgain { bytes }, Input::First);
     let lines: [Want; 2] = [(b"a", LineEnd::Lf), (b"b", LineEnd::Absent)];
     let are_given = gives_all(&mut reader, &lines) && has_ended(&mut reader);
     holds(&rt, are_given && reader.into_source().failed(), "two lines");
@@ -230,11 +221,7 @@ struct NeverServes {
 }
 
 impl Source for NeverServes {
-    ghost left = { λ _. None };
-
     ghost has_failed = { λ _. true };
-
-    ghost end_told = { λ _. false };
 
     ghost is_read = { λ _ _ _. ⊤ };
 

@@ -1,7 +1,7 @@
 -- What a run read of its inputs, and what their texts may be.
 use Rattle.std.specs.Prelude.{◌≡◌, ℕ, ◌-◌, ◌^◌, ◌≤◌, Bool, true, false, ⊤, List, [], ◌++◌, length, nat_le, take, Option, Some, None, IfSome}
 use Rattle.bt_lines.specs.declared.device.Source.{Ghosts as Source}
-use Rattle.bt_lines.specs.calls.Device.{EndsAfter, FailsAfter, ReadsOn}
+use Rattle.bt_lines.specs.calls.Device.{EndsAfter, FailsAfter, ReadsOn, TellsText}
 use Rattle.bt_lines.specs.model.Lines.{Handed, whole_text}
 
 -- this holds of two, both of which may be missing
@@ -36,8 +36,12 @@ MayFollow read rest = read.told ≡ true → rest ≡ []
 -- the reads that took a source from the one to the other went so
 pub record ReadsSo {S : Type 0} (device : Source S) (before : S) (read : InputRead) (after : S) : Type 0 where
   pub went : ReadsAs read.told read.failed device.is_read before read.bytes after
-  -- if the text that was left is known, it is what was handed over, and a rest that may follow it
-  pub known : IfSome (device.left before) (λ text. (rest : List ℕ) × (text ≡ read.bytes ++ rest) × MayFollow read rest)
+
+-- If the source tells its text, that is what was handed over, and a rest that may follow it.
+abbrev pub reads_tell_the_text : {S : Type 0} → Source S → Type 0
+reads_tell_the_text {S} device = (before : S) (read : InputRead) (after : S) (text : List ℕ)
+    → ReadsSo device before read after → TellsText device.is_read before text
+    → (rest : List ℕ) × (text ≡ read.bytes ++ rest) × MayFollow read rest
 
 -- of an input that may not be there: if it is, its reads went so
 abbrev pub ReadsSoIf : {S : Type 0} → Source S → Option S → Option InputRead → Option S → Type 0

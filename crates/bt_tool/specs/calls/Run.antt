@@ -130,7 +130,7 @@ module _ {G : Type 0} (device : Source G) where
     pub served : ServesIf device.has_failed before after
     pub no_failed : NoneFailed read
     -- the file's end was reported
-    pub ended : OfBoth (λ read after. (read.told ≡ true) × (device.end_told after ≡ true)) read after
+    pub ended : IfSome read (λ read. read.told ≡ true)
 
   -- the genome file is at fault, or couldn't be read
   pub record LacksChromosomes (before : Option G) (read : Option InputRead) (after : Option G)

@@ -1,6 +1,6 @@
 //! Sources that failed before a run, and serve in it.
 
-ghost use Rattle.std.specs.Prelude.{◌≡◌, IsSome, None, is_some, true};
+ghost use Rattle.std.specs.Prelude.{◌≡◌, IsSome, is_some, true};
 
 use crate::run;
 use crate::tests::tables::{Table, rows_of, run_of};
@@ -14,24 +14,15 @@ use std::test::Fail;
 #[derive(Drop)]
 struct FailedBefore<'a> {
     bytes: &'a [u8],
-    end_told: bool,
 }
 
 impl Source for FailedBefore<'_> {
-    ghost left = { λ _. None };
-
     ghost has_failed = { λ _. true };
-
-    ghost end_told = { λ s. s.end_told };
 
     ghost is_read = { λ _ call _. IsSome call };
 
     fn read(&mut self, block: &mut [u8]) -> Result<usize, DeviceFailed> {
-        if block.is_empty() {
-            return Ok(0);
-        }
-        if self.bytes.is_empty() {
-            self.end_told = true;
+        if block.is_empty() || self.bytes.is_empty() {
             return Ok(0);
         }
         block[0] = self.bytes[0];
@@ -61,10 +52,7 @@ const RUNS: Table = Table {
 };
 
 fn failed_before(bytes: &[u8]) -> FailedBefore<'_> {
-    FailedBefore {
-        bytes,
-        end_told: false,
-    }
+    FailedBefore { bytes }
 }
 
 // One of these bytes if the plan names the input.

@@ -4,15 +4,19 @@ use Rattle.std.specs.Io.Cursor.{cursor_inner, cursor_position}
 use Rattle.std.specs.declared.alloc.Global.{Global}
 use Rattle.std.specs.declared.io.impls.Cursor.{Cursor}
 use Rattle.bt_lines.proofs.Std.{◌≡◌, ◌∙◌, ◌⊎◌, ◌++◌, ℕ, [], List, Option, Some, None, Result, Ok, Err, ap, append-nil, append_assoc, inl, inr, refl, subst, sym}
+use Rattle.bt_lines.proofs.lemmas.reader.block.ReadsLemmas.{ends_later, ends_once}
 use Rattle.bt_lines.specs.declared.device.Source.{Ghosts as Source}
 use Rattle.bt_lines.specs.declared.device.from_read.FromRead.{FromRead}
-use Rattle.bt_lines.specs.calls.Device.{FailsAfter, ReadsOn, begun, gave, reader_of}
+use Rattle.bt_lines.specs.calls.Device.{EndsAfter, FailsAfter, Gives, ReadsOn, begun, gave, reader_of}
 use Rattle.bt_front.specs.calls.Stream.{IsKeptRead, has_stopped, kept_of, source_of}
 use Rattle.bt_front.specs.calls.Survey.{ReadsSurvey}
 use Rattle.bt_front.specs.declared.stream.keeping.Keeping.{Keeping}
 use Rattle.bt_front.specs.declared.survey.Survey.{Survey}
 use Rattle.bt_front.specs.declared.survey.trouble.Trouble.{Trouble}
-use Rattle.drop_in.specs.calls.Inputs.{kept_left}
+use Rattle.bt_lines.proofs.lemmas.Device.{tells_text}
+use Rattle.drop_in.specs.calls.Inputs.{IsFrontRead, kept_left, kept_texts_are_told}
+use Rattle.drop_in.specs.declared.front_files.FrontInput.{FrontInput}
+use Rattle.drop_in.specs.declared.front_files.FrontInput.TheVariants.{Kept, Opened}
 use Rattle.drop_in.specs.calls.Looks.{SurveysStream}
 use Rattle.drop_in.specs.declared.looks.ReadStream.{ReadStream}
 
@@ -28,6 +32,13 @@ module _ {S : Type 0} (IsRead : S → Option (List ℕ) → S → Type 0) where
   kept_more first before after piece reads is =
       subst (λ (kept : List ℕ). ReadsOn IsRead first kept (source_of after)) (sym (is.0)) (gave reads piece (source_of after) (is.1))
 
+  -- or one that told the end
+  pub kept_last : (first : S) (before after : Keeping S) (piece : List ℕ) → piece ≡ [] → ReadsOn IsRead first (kept_of before) (source_of before)
+      → IsKeptRead IsRead before (Some piece) after → EndsAfter IsRead first (kept_of after) (source_of after)
+  kept_last first before after piece none reads is =
+      subst (λ (kept : List ℕ). EndsAfter IsRead first kept (source_of after)) (sym (is.0))
+      (ends_later IsRead reads (ends_once IsRead (source_of before) (source_of after) piece none (is.1)))
+
   -- what was read of it was read of the source below, and is kept
   pub kept_reads : {first last : Keeping S} {bytes : List ℕ} → ReadsOn (IsKeptRead IsRead) first bytes last
       → ReadsOn IsRead (source_of first) bytes (source_of last) × (kept_of last ≡ kept_of first ++ bytes)
@@ -36,6 +47,15 @@ module _ {S : Type 0} (IsRead : S → Option (List ℕ) → S → Type 0) where
       let so = kept_reads reads in (
         gave so.0 piece (source_of after) (is.1),
         is.0 ∙ ap (λ (kept : List ℕ). kept ++ piece) so.1 ∙ append_assoc (kept_of first) bytes piece,
+      )
+
+  -- or told the end then
+  pub kept_ends : (first last : Keeping S) (bytes : List ℕ) → EndsAfter (IsKeptRead IsRead) first bytes last
+      → EndsAfter IsRead (source_of first) bytes (source_of last) × (kept_of last ≡ kept_of first ++ bytes)
+  kept_ends first last bytes ends =
+      let so = kept_reads ends.served in (
+        record { before = source_of ends.before; served = so.0; tells = ends.tells.1 },
+        ends.tells.0 ∙ append-nil (kept_of ends.before) ∙ so.1,
       )
 
   -- or it failed then
@@ -54,9 +74,7 @@ module _ {S : Type 0} (IsRead : S → Option (List ℕ) → S → Type 0) where
 -- a source that keeps, as a source
 abbrev pub kept_source : {S : Type 0} → Source S → Source (Keeping S)
 kept_source device = record {
-  left = λ s. device.left (source_of s);
   has_failed = has_stopped;
-  end_told = λ s. device.end_told (source_of s);
   is_read = IsKeptRead device.is_read;
 }
 
@@ -76,19 +94,13 @@ module _ {S : Type 0} (device : Source S) where
       → kept.items ≡ kept_of last → ReadsSurvey (kept_source device) first last result
       → SurveysStream device (source_of first) (record { source = source_of last; kept = kept }) result
   surveyed_below first last kept (Ok survey) none is surveys =
-      let so = kept_reads device.is_read surveys.served in (
-        record {
-          bytes = surveys.bytes;
-          served = so.0;
-          told = surveys.told;
-          is = surveys.is;
-          known = surveys.known;
-        },
+      let so = kept_ends device.is_read first last surveys.bytes surveys.told in (
+        record { bytes = surveys.bytes; told = so.0; is = surveys.is },
         is ∙ so.1 ∙ ap (λ (old : List ℕ). old ++ surveys.bytes) none,
       )
   surveyed_below first last kept (Err trouble) none is leaves =
       let so = handed_below first last leaves.bytes leaves.handed in (
-        record { bytes = leaves.bytes; handed = so.0; ended = leaves.ended; told = leaves.told; is = leaves.is; known = leaves.known },
+        record { bytes = leaves.bytes; handed = so.0; ended = leaves.ended; told = λ ended. (kept_ends device.is_read first last leaves.bytes (leaves.told ended)).0; is = leaves.is },
         is ∙ so.1 ∙ ap (λ (old : List ℕ). old ++ leaves.bytes) none,
       )
 
@@ -107,3 +119,21 @@ module _ {S : Type 0} (device : Source S) where
       → handed_over start stream.kept.items stream.source
   left_stream start stream trouble surveys =
       subst (λ (bytes : List ℕ). handed_over start bytes stream.source) (sym (surveys.1)) surveys.0.handed
+
+-- ---- a text in memory
+
+module _ {I : Type 0} (source : Source I) where
+  -- the bytes that are left of it; those of an input that was opened aren't known
+  abbrev front_left : FrontInput I → Option (List ℕ)
+  front_left (Opened input) = None
+  front_left (Kept text) = kept_left text
+
+  -- a read takes its bytes from them
+  front_gives : (before : FrontInput I) (bytes : List ℕ) (after : FrontInput I) → IsFrontRead source before (Some bytes) after → Gives (front_left before) (Some bytes) (front_left after)
+  front_gives (Opened before) bytes (Opened after) is = (tt, λ none. tt)
+  front_gives (Kept before) bytes (Kept after) is = is.1
+  front_gives (Opened before) bytes (Kept after) is = absurd is
+  front_gives (Kept before) bytes (Opened after) is = absurd is
+
+  pub kept_told : kept_texts_are_told source
+  kept_told input text has = tells_text (IsFrontRead source) front_left front_gives input text (ap front_left has.is ∙ has.left)

@@ -49,3 +49,12 @@ word_before words at word h e shown option is_shown is i t =
     let back : at + 2 - 2 ≡ at = omega arith in
     subst (λ (n : ℕ). slice_get (words_seen words) n ≡ Some option) (sym back)
     (slice_get-map string_bytes words at ∙ ap (λ (w : Option (String Global)). option_map string_bytes w) here ∙ ap (λ (w : Word). Some w) same)
+
+-- the word at a place is this one
+pub word_there : (words : List (String Global)) (at : ℕ) (word : String Global) → at < length words → word ≡ get_or words at word
+    → (shown name : Word) → shown ≡ string_bytes word → (is : Bool) → is ≡ bytes_eq shown name → is ≡ true
+    → slice_get (words_seen words) at ≡ Some name
+word_there words at word h e shown name is_shown is i t =
+    let here : slice_get words at ≡ Some word = slice_get_read words (length words) at word refl h e in
+    let same : string_bytes word ≡ name = sym is_shown ∙ same_name shown name (sym i ∙ t) in
+    slice_get-map string_bytes words at ∙ ap (λ (w : Option (String Global)). option_map string_bytes w) here ∙ ap (λ (w : Word). Some w) same

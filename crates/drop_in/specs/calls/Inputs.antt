@@ -6,7 +6,7 @@ use Rattle.std.specs.declared.alloc.Global.{Global}
 use Rattle.std.specs.declared.io.impls.Cursor.{Cursor}
 use Rattle.bt_lines.specs.declared.device.Source.{Ghosts as Source}
 use Rattle.bt_lines.specs.declared.device.from_read.FromRead.{FromRead}
-use Rattle.bt_lines.specs.calls.Device.{Gives, TellsFailure, reader_of, read_end_told, read_has_failed}
+use Rattle.bt_lines.specs.calls.Device.{Gives, TellsFailure, TellsText, reader_of, read_end_told, read_has_failed}
 use Rattle.bt_files.specs.declared.files.Files.{Ghosts as Files}
 use Rattle.bt_tool.specs.model.Table.{Word}
 use Rattle.drop_in.specs.declared.front_files.FrontInput.{FrontInput}
@@ -18,17 +18,9 @@ abbrev pub kept_left : FromRead (Cursor (Vec ℕ Global)) → Option (List ℕ)
 kept_left text = cursor_remaining (λ bytes. Some bytes.items) (reader_of text)
 
 module _ {I : Type 0} (source : Source I) where
-  abbrev pub front_left : FrontInput I → Option (List ℕ)
-  front_left (Opened input) = source.left input
-  front_left (Kept text) = kept_left text
-
   abbrev pub front_has_failed : FrontInput I → Bool
   front_has_failed (Opened input) = source.has_failed input
   front_has_failed (Kept text) = read_has_failed text
-
-  abbrev pub front_end_told : FrontInput I → Bool
-  front_end_told (Opened input) = source.end_told input
-  front_end_told (Kept text) = read_end_told text
 
   -- a read is that of the input that was opened, or gives the next bytes of the text in memory
   abbrev pub IsFrontRead : FrontInput I → Option (List ℕ) → FrontInput I → Type 0
@@ -40,9 +32,7 @@ module _ {I : Type 0} (source : Source I) where
   -- an input of a run as a source
   abbrev pub front_source : Source (FrontInput I)
   front_source = record {
-    left = front_left;
     has_failed = front_has_failed;
-    end_told = front_end_told;
     is_read = IsFrontRead;
   }
 
@@ -53,6 +43,11 @@ pub record HasText {I : Type 0} (input : FrontInput I) (text : List ℕ) : Type 
   pub left : kept_left kept ≡ Some text
   pub served : read_has_failed kept ≡ false
   pub going : read_end_told kept ≡ false
+
+-- its reads tell that text
+abbrev pub kept_texts_are_told : {I : Type 0} → Source I → Type 0
+kept_texts_are_told {I} source = (input : FrontInput I) (text : List ℕ) → HasText input text
+    → TellsText (IsFrontRead source) input text
 
 module _ {F I : Type 0} where
   -- the files below

@@ -1,6 +1,6 @@
 -- What looking at the inputs of a call does: files are those before and after.
 use Rattle.std.specs.Prelude.{ℕ, ◌≡◌, ⊤, true, List, Option, Some, None, Result, Ok, Err, length, nat_lt}
-use Rattle.bt_lines.specs.calls.Device.{ReadsOn}
+use Rattle.bt_lines.specs.calls.Device.{EndsAfter}
 use Rattle.bt_lines.specs.declared.device.Source.{Ghosts as Source}
 use Rattle.bt_lines.specs.declared.fault.Input.{Input}
 use Rattle.bt_lines.specs.declared.fault.Input.TheVariants.{Genome}
@@ -28,8 +28,7 @@ use Rattle.drop_in.specs.declared.why.Why.{Why}
 -- all that a source hands over, up to its end
 pub record ReadsText {S : Type 0} (source : Source S) (before : S) (text : List ℕ) : Type 0 where
   pub after : S
-  pub served : ReadsOn source.is_read before text after
-  pub told : source.end_told after ≡ true
+  pub served : EndsAfter source.is_read before text after
 
 -- A stream was surveyed, and all that it gave is kept, in order.
 abbrev pub SurveysStream : {I : Type 0} → Source I → I → ReadStream I → Result Survey Trouble → Type 0
@@ -63,7 +62,7 @@ module _ {I : Type 0} (source : Source I) where
     pub read : I
     pub trouble : Trouble
     pub leaves : LeavesText source file.for_survey read trouble
-    pub because : why ≡ file_why input trouble
+    pub because : why ≡ file_why input trouble (source.has_failed read)
 
   -- an input, if it's a file
   abbrev pub SeesIfFile : FileOrStream (OpenedFile I) → FileOrStream (Seen I) → Type 0
@@ -105,7 +104,7 @@ module _ {F I O : Type 0} (files : Files F I O) (source : Source I) where
         → LeavesStream before name input room left after
     by_text : (opened : I) (stream : ReadStream I) (trouble : Trouble) → left.stream ≡ Some stream
         → files.opens before name opened after → SurveysStream source opened stream (Err trouble)
-        → left.why ≡ stream_why input trouble (nat_lt room (length stream.kept.items))
+        → left.why ≡ stream_why input trouble (nat_lt room (length stream.kept.items)) (source.has_failed stream.source)
         → LeavesStream before name input room left after
 
   -- an input is looked at in the end: a stream is read now, if it is one

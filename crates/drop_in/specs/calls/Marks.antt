@@ -1,7 +1,7 @@
 -- By what bytes programs are told apart.
 use Rattle.std.specs.Prelude.{ℕ, ◌≡◌, ◌≤◌, ◌⊎◌, true, List, codes, length}
 use Rattle.memchr.specs.Find.{OccursAt}
-use Rattle.bt_lines.specs.calls.Device.{FailsAfter, ReadsOn}
+use Rattle.bt_lines.specs.calls.Device.{EndsAfter, FailsAfter, ReadsOn}
 use Rattle.bt_lines.specs.declared.device.Source.{Ghosts as Source}
 use Rattle.drop_in.specs.declared.marks.Mark.{Mark}
 use Rattle.drop_in.specs.declared.marks.Mark.TheVariants.{Ours, KnownVersion}
@@ -29,8 +29,7 @@ module _ {S : Type 0} (source : Source S) where
   -- a source gave these bytes, and then its end, or a read failed
   abbrev pub GivesAll : S → List ℕ → S → Type 0
   GivesAll before bytes after =
-      (ReadsOn source.is_read before bytes after × (source.end_told after ≡ true))
-      ⊎ FailsAfter source.is_read before bytes after
+      EndsAfter source.is_read before bytes after ⊎ FailsAfter source.is_read before bytes after
 
   -- what a search says of a source, by the bytes that this gave
   abbrev pub Shows : Mark → S → Search → S → Type 0

@@ -51,13 +51,20 @@ abbrev pub is_failed_read : Kind → Bool
 is_failed_read ReadFailed = true
 is_failed_read kind = false
 
--- of a file, by what leaves its text to bedtools
-abbrev pub file_why : Input → Trouble → Why
-file_why input (Odd odd) = if is_gzip odd.oddity then Zipped input else Text input (Odd odd)
-file_why input trouble = Text input trouble
+-- of a text, by what leaves it, and by whether its source says that a read failed: if reading failed and it doesn't, there was
+-- no memory
+abbrev pub text_why : Input → Trouble → Bool → Why
+text_why input (Refused fault) has_failed =
+    if is_failed_read fault.kind && not has_failed then NoMemory else Text input (Refused fault)
+text_why input trouble has_failed = Text input trouble
 
--- of a stream, and by whether more of it is kept than there is room for
-abbrev pub stream_why : Input → Trouble → Bool → Why
-stream_why input (Refused fault) is_long =
-    if is_failed_read fault.kind && is_long then LongStream else Text input (Refused fault)
-stream_why input trouble is_long = Text input trouble
+-- of a file
+abbrev pub file_why : Input → Trouble → Bool → Why
+file_why input (Odd odd) has_failed = if is_gzip odd.oddity then Zipped input else Text input (Odd odd)
+file_why input trouble has_failed = text_why input trouble has_failed
+
+-- of a stream, and by whether more of it is kept than there is room for: then it isn't read on
+abbrev pub stream_why : Input → Trouble → Bool → Bool → Why
+stream_why input (Refused fault) is_long has_failed =
+    if is_failed_read fault.kind && is_long then LongStream else text_why input (Refused fault) has_failed
+stream_why input trouble is_long has_failed = Text input trouble

@@ -1,5 +1,5 @@
 -- What the words of a call ask for, or why it isn't run here.
-use Rattle.std.specs.Prelude.{◌≡◌, Bool, false, true, List, [], ◌∷◌, bytes_eq, codes, Option, Some, None, Ok, Err, IsOk}
+use Rattle.std.specs.Prelude.{◌≡◌, Bool, false, true, List, [], ◌∷◌, bytes_eq, codes, Option, Some, None, Ok, Err, IsOk, ℕ, ◌-◌, ◌≤◌, slice_get}
 use Rattle.bt_lines.specs.declared.fault.Input.{Input}
 use Rattle.bt_lines.specs.declared.fault.Input.TheVariants.{First, Genome, Second}
 use Rattle.bt_front.specs.model.Words.{asked_of}
@@ -11,6 +11,7 @@ use Rattle.bt_tool.specs.declared.options.usage.Usage.{Usage as UsageFault}
 use Rattle.bt_tool.specs.model.Options.{PlanSeen, options}
 use Rattle.bt_tool.specs.model.Table.{Word}
 use Rattle.drop_in.specs.calls.Call.{asked_by}
+use Rattle.drop_in.specs.calls.Names.{is_of_standard_input}
 use Rattle.drop_in.specs.declared.why.Why.{Why}
 use Rattle.drop_in.specs.declared.why.Why.TheVariants.{Alignments, CoverageForm, Limit, Mask, NoMemory, Usage, Words}
 use Rattle.drop_in.specs.declared.words.Request.{Request}
@@ -49,6 +50,17 @@ pub data IsWhyOfWords (words : List Word) : Why → Type 0 where
   -- bedtools takes the words
   not_ours : (plan : PlanSeen) (reason : WordReason) → options words ≡ Ok plan → asked_of words plan ≡ Err reason
       → IsWhyOfWords words (Words reason)
+
+-- the value of an option is at this place, counted from 1: the word before it is the option
+pub record IsValueOf (words : List Word) (option value : Word) (place : ℕ) : Type 0 where
+  pub option_before : slice_get words (place - 2) ≡ Some option
+  pub value_there : slice_get words (place - 1) ≡ Some value
+  pub past_command : 3 ≤ place
+
+-- The word that a stream of this name replaces, which an option names: none (0) if it is standard input by its name.
+pub data IsStreamWord (words : List Word) (option name : Word) : ℕ → Type 0 where
+  stays : is_of_standard_input name ≡ true → IsStreamWord words option name 0
+  replaced : (place : ℕ) → IsValueOf words option name place → IsStreamWord words option name place
 
 -- the option that names an input of a command
 abbrev pub option_of : Command → Input → Word

@@ -1,7 +1,7 @@
 -- Lemmas on surveying a source.
-use Rattle.bt_lines.proofs.Std.{Bool, refl, ◌≡◌, ◌∙◌, ◌⊎◌, ℕ, ◌++◌, [], Consumes, IsAtEnd, IsSome, List, None, Option, Some, ap, append-nil, append_assoc, inl, inr, is_some, list_all, subst, sym, true}
-use Rattle.bt_lines.specs.calls.Device.{FailsAfter, ReadsOn, begun, gave}
-use Rattle.bt_lines.specs.calls.Reader.{AreRead, Hands, IsReadFailed, end_told, fault_kept as line_fault, input_of, lines_coming, source_of}
+use Rattle.bt_lines.proofs.Std.{arith, length, length-append, nil_from_length, false, Bool, refl, ◌≡◌, ◌∙◌, ◌⊎◌, ℕ, ◌++◌, [], IsSome, List, None, Option, Some, ap, append-nil, append_assoc, inl, inr, is_some, list_all, subst, sym, true}
+use Rattle.bt_lines.specs.calls.Device.{EndsAfter, FailsAfter, ReadsOn, TellsText, begun, gave}
+use Rattle.bt_lines.specs.calls.Reader.{AreRead, EndsReads, Hands, IsReadFailed, end_told, fault_kept as line_fault, input_of, lines_coming, source_of}
 use Rattle.bt_lines.specs.declared.fault.Input.{Input}
 use Rattle.bt_lines.specs.declared.fault.Input.TheVariants.{First}
 use Rattle.bt_lines.specs.declared.reader.line_reader.LineReader.{LineReader}
@@ -69,17 +69,28 @@ module _ {S : Type 0} (IsRead : S → Option (List ℕ) → S → Type 0) where
   shows_handed first last bytes Faulty (inl reads) shows = shows_after reads [] shows
   shows_handed first last bytes Faulty (inr fails) shows = fails.0.fails.keeps bytes (shows_after fails.0.served [] shows)
 
--- ---- known bytes
+  pub ends_below : (first last : Watched S) (bytes : List ℕ) → EndsAfter (IsWatchedRead IsRead) first bytes last → EndsAfter IsRead first.source bytes last.source
+  ends_below first last bytes ends = record { before = ends.before.source; served = reads_below ends.served; tells = ends.tells.served }
 
--- those that are left come after those handed over
-rest_known : (text : List ℕ) (new : Option (List ℕ)) (bytes : List ℕ) (ended : Bool) → Consumes (Some text) new bytes → (ended ≡ true → IsAtEnd new) → (rest : List ℕ) × (text ≡ bytes ++ rest) × (ended ≡ true → rest ≡ [])
-rest_known text None bytes ended consumes none = absurd consumes
-rest_known text (Some rest) bytes ended consumes none = (rest, consumes, none)
+-- ---- a source that tells its text
 
--- at the end none are
-all_known : (text : List ℕ) (new : Option (List ℕ)) (bytes : List ℕ) → Consumes (Some text) new bytes → IsAtEnd new → text ≡ bytes
-all_known text None bytes consumes ends = absurd consumes
-all_known text (Some rest) bytes consumes ends = consumes ∙ ap (λ (l : List ℕ). bytes ++ l) ends ∙ append-nil bytes
+-- nothing comes after all of it
+none_behind : (text bytes rest : List ℕ) → text ≡ bytes → text ≡ bytes ++ rest → rest ≡ []
+none_behind text bytes rest all parts = nil_from_length rest (omega (arith, ap length (sym all ∙ parts), length-append bytes rest))
+
+module _ {S : Type 0} (device : Source S) (before after : S) (text : List ℕ) (tells : TellsText device.is_read before text) where
+  pub survey_told : (survey : Survey) (surveys : Surveys device before after survey) → text ≡ surveys.bytes
+  survey_told survey surveys = tells.ends surveys.bytes after surveys.told
+
+  -- the bytes that were handed over come first
+  comes_first : (bytes : List ℕ) → ReadsOn device.is_read before bytes after ⊎ FailsAfter device.is_read before bytes after → (rest : List ℕ) × (text ≡ bytes ++ rest)
+  comes_first bytes (inl served) = tells.hands bytes after served
+  comes_first bytes (inr fails) = tells.hands bytes fails.before fails.served
+
+  pub leaves_told : (trouble : Trouble) (leaves : LeavesText device before after trouble) → (rest : List ℕ) × (text ≡ leaves.bytes ++ rest) × (leaves.ended ≡ true → rest ≡ [])
+  leaves_told trouble leaves =
+      let first = comes_first leaves.bytes leaves.handed in
+      (first.0, first.1, λ ended. none_behind text leaves.bytes first.0 (tells.ends leaves.bytes after (leaves.told ended)) first.1)
 
 -- ---- a survey
 
@@ -95,17 +106,19 @@ module _ {S : Type 0} (device : Source S) where
     pub source_is : (source_of (below blocks)).source ≡ source
     pub shows : Shows [] (source_of (below blocks))
     pub good : (text : List ℕ) → coming text (view_of blocks) ≡ read_of text
+    pub untold : end_told (below blocks) ≡ false
 
   -- one that was just made is
   pub watching : (source : S) (watched : Watched S) (reader : LineReader (Watched S)) (blocks : Blocks (Watched S)) → watched.source ≡ source → Shows [] watched
-      → source_of reader ≡ watched → input_of reader ≡ First → ((text : List ℕ) → lines_coming text reader ≡ text_lines text)
+      → source_of reader ≡ watched → end_told reader ≡ false → input_of reader ≡ First → ((text : List ℕ) → lines_coming text reader ≡ text_lines text)
       → below blocks ≡ reader → ((text : List ℕ) → coming text (view_of blocks) ≡ good block_format (input_of reader) (lines_coming text reader))
       → Watching source blocks
-  watching source watched reader blocks here shows above input lines holds comes =
+  watching source watched reader blocks here shows above untold input lines holds comes =
       let at : source_of (below blocks) ≡ watched = ap source_of holds ∙ above in record {
         source_is = ap (λ (w : Watched S). w.source) at ∙ here;
         shows = subst (λ (w : Watched S). Shows [] w) (sym at) shows;
         good = λ text. comes text ∙ ap (λ (i : Input). good block_format i (lines_coming text reader)) input ∙ ap (good block_format First) (lines text);
+        untold = ap end_told holds ∙ untold;
       }
 
   module _ (source : S) (old new : Blocks (Watched S)) (watched : Watched S) (after : S) (so : Watching source old) (is : watched ≡ source_of (below new)) (ends : after ≡ watched.source) where
@@ -122,49 +135,38 @@ module _ {S : Type 0} (device : Source S) where
       shown : Shows bytes watched
       shown = subst (λ (w : Watched S). Shows bytes w) (sym is) (shows_handed device.is_read (source_of (below old)) (source_of (below new)) bytes (IsSome (line_fault (below new))) (reads_either (watched_source device) (below old) bytes (below new) hands.reads) so.shows)
 
-      known_from : (text : List ℕ) → device.left source ≡ Some text → Consumes (Some text) (device.left (source_of (below new)).source) bytes
-      known_from text known =
-          subst (λ (o : Option (List ℕ)). Consumes o (device.left (source_of (below new)).source) bytes) (ap device.left so.source_is ∙ known) hands.left_over
+      ended : end_told (below new) ≡ true → EndsAfter device.is_read source bytes after
+      unfolding EndsReads
+      ended told =
+          subst (λ (s : S). EndsAfter device.is_read source bytes s) (sym same)
+          (subst (λ (s : S). EndsAfter device.is_read s bytes (source_of (below new)).source) so.source_is
+          (ends_below device.is_read (source_of (below old)) (source_of (below new)) bytes (hands.ends_reads.1 so.untold told)))
 
     -- the records were seen to the end, whose last line isn't odd
     pub surveyed : (survey : Survey) → HasSeenAll (watched_source device) old new survey → ((bytes : List ℕ) → Shows bytes watched → EndsBy bytes None) → Surveys device source after survey
     surveyed survey sees plain =
         let bytes = sees.bytes.0 in
-        let end = sees.kept.end sees.told in
         let lines : list_all is_plain (raw_lines bytes) ≡ true = plain bytes (shown bytes sees.bytes.1) in
-        let whole : (text : List ℕ) → device.left source ≡ Some text → text ≡ bytes = λ text known. all_known text _ bytes (known_from bytes sees.bytes.1 text known) end.1 in
         record {
           bytes = bytes;
-          served = all_served (reads_either (watched_source device) (below old) sees.bytes.0 (below new) sees.bytes.1.reads);
-          told = rw same end.0;
+          told = ended bytes sees.bytes.1 sees.told;
           is = record {
             plain = lines;
             faultless = subst (λ (g : Good Feature). g.fault ≡ None) (so.good bytes) sees.faultless;
             records = subst (λ (g : Good Feature). AreSeen (items_in g) survey) (so.good bytes) sees.records;
           };
-          known = whole;
         }
-      where
-        all_served : ReadsOn (IsWatchedRead device.is_read) (source_of (below old)) sees.bytes.0 (source_of (below new))
-            ⊎ (FailsAfter (IsWatchedRead device.is_read) (source_of (below old)) sees.bytes.0 (source_of (below new)) × IsSome (line_fault (below new)))
-            → ReadsOn device.is_read source sees.bytes.0 after
-        all_served (inl reads) =
-            subst (λ (s : S). ReadsOn device.is_read source sees.bytes.0 s) (sym same)
-            (subst (λ (s : S). ReadsOn device.is_read s sees.bytes.0 (source_of (below new)).source) so.source_is (reads_below device.is_read reads))
-        all_served (inr fails) = absurd (no_fault (line_fault (below new)) sees.going fails.1)
 
     -- the last line is odd
     pub ends_odd : (survey : Survey) (odd : OddLine) → HasSeenAll (watched_source device) old new survey → ((bytes : List ℕ) → Shows bytes watched → EndsBy bytes (Some odd)) → LeavesText device source after (Odd odd)
     ends_odd survey odd sees finds =
         let bytes = sees.bytes.0 in
-        let end = sees.kept.end sees.told in
         let line : IsOddLine bytes odd = finds bytes (shown bytes sees.bytes.1) in record {
           bytes = bytes;
           handed = handed bytes sees.bytes.1;
           ended = true;
-          told = λ e. rw same end.0;
+          told = λ e. ended bytes sees.bytes.1 sees.told;
           is = λ rest follows. inl (subst (λ (l : List ℕ). IsOddLine l odd) (sym (ap (λ l. bytes ++ l) (follows refl) ∙ append-nil bytes)) line);
-          known = λ text known. (let whole : text ≡ bytes = all_known text _ bytes (known_from bytes sees.bytes.1 text known) end.1 in ([], whole ∙ sym (append-nil bytes), λ e. refl));
         }
 
     -- an odd line passed
@@ -175,9 +177,8 @@ module _ {S : Type 0} (device : Source S) where
           bytes = bytes;
           handed = handed bytes stops.bytes.1;
           ended = end_told (below new);
-          told = λ e. rw same (stops.kept.end e).0;
+          told = ended bytes stops.bytes.1;
           is = λ rest follows. inl (begins.first rest);
-          known = λ text known. rest_known text _ bytes (end_told (below new)) (known_from bytes stops.bytes.1 text known) (λ e. (stops.kept.end e).1);
         }
 
     -- or the records leave the text to bedtools
@@ -187,8 +188,7 @@ module _ {S : Type 0} (device : Source S) where
           bytes = bytes;
           handed = handed bytes stops.bytes.1;
           ended = end_told (below new);
-          told = λ e. rw same (stops.kept.end e).0;
+          told = ended bytes stops.bytes.1;
           is = λ rest follows. in_text (bytes ++ rest) trouble
               (subst (λ (g : Good Feature). IsTroubleIn g trouble) (so.good (bytes ++ rest)) (stops.trouble_is rest follows));
-          known = λ text known. rest_known text _ bytes (end_told (below new)) (known_from bytes stops.bytes.1 text known) (λ e. (stops.kept.end e).1);
         }

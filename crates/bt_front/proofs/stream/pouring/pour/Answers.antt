@@ -1,6 +1,7 @@
-use Rattle.std.proofs.Common.{[], ◌++◌, append_assoc, sym, take, arith}
+use Rattle.std.proofs.Common.{[], ◌++◌, append_assoc, sym, take, arith, ap}
 use Rattle.std.proofs.lemmas.List.{append-nil}
 use Rattle.std.proofs.KnownBytes.{Appends-kept, Appends-trans}
+use Rattle.bt_lines.proofs.lemmas.reader.block.ReadsLemmas.{ends_later, ends_once}
 use Rattle.bt_lines.specs.calls.Device.{begun, gave}
 use Rattle.bt_front.proofs.stream.pouring.pour.Goals as goal
 
@@ -11,7 +12,7 @@ pub loop-preserved : goal.loop-preserved
 loop-preserved g c =
     let before = c.loop.invariant in (
       before.0 ++ take c.in-Ok.count c.read.new.block,
-      gave before.1 _ _ c.in-Ok.ensures.handed,
+      gave before.1 _ _ (c.in-Ok.ensures.handed (omega (arith, c.read.auto.block))),
       rw (sym (append_assoc c.args.kept.now before.0 (take c.in-Ok.count c.read.new.block)))
           (Appends-trans _ _ _ _ _ before.2 c.in_ok-put-in-Ok.ensures.put),
       c.in_ok-put-in-Ok.ensures.taken,
@@ -20,7 +21,7 @@ loop-preserved g c =
 pub returns-in-Ok-eq0-clause-all : goal.returns-in-Ok-eq0-clause-all
 returns-in-Ok-eq0-clause-all g c = record {
   bytes = c.loop.invariant.0 ++ take c.in-Ok-eq0.field-0 c.read.new.block;
-  served = gave c.loop.invariant.1 _ _ c.in-Ok-eq0.ensures.handed;
-  ended = grind (arith, c.in-Ok-eq0.ensures.end);
+  served = ends_later g.S.Source.is_read c.loop.invariant.1
+      (ends_once g.S.Source.is_read _ _ _ (ap (λ count. take count c.read.new.block) c.in-Ok-eq0.field-0-test) (c.in-Ok-eq0.ensures.handed (omega (arith, c.read.auto.block))));
   taken = rw c.in-Ok-eq0.field-0-test (rw (append-nil c.loop.invariant.0) (Appends-kept _ _ _ _ c.loop.invariant.2 c.loop.invariant.3));
 }

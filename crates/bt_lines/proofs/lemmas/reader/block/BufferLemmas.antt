@@ -1,5 +1,5 @@
 -- Lemmas on the bytes of a block.
-use Rattle.bt_lines.proofs.Std.{drop_at, common_steps, ◌≡◌, ℕ, ◌+◌, ◌-◌, ◌≤◌, List, length, take, drop, slice_range, sym, ap, ◌∙◌, arith, length-take, drop-take, drop-drop, zero, suc, ◌<◌, ◌⊎◌, inl, inr, Bool, true, false, cond, [], ◌∷◌, ◌++◌, get_or, set, Some, None, refl, subst, append_assoc, length-append, eqb, paste, take-add, eqb-true, false_from_ne_true, false≢true, take-append-drop, take-append-le, take-take, drop-append-le, take_at, take_more, take_more_set, length-take-le, length-drop, get_or-drop, get_or_default, All-append, All-nil, nat_eq, ◌^◌, append-nil, add-zero, Consumes-nil, Consumes-trans, Consumes, Result, Ok, Err}
+use Rattle.bt_lines.proofs.Std.{drop_at, common_steps, ◌≡◌, ℕ, ◌+◌, ◌-◌, ◌≤◌, List, length, take, drop, slice_range, sym, ap, ◌∙◌, arith, length-take, drop-take, drop-drop, zero, suc, ◌<◌, ◌⊎◌, inl, inr, Bool, true, false, cond, [], ◌∷◌, ◌++◌, get_or, set, Some, None, refl, subst, append_assoc, length-append, eqb, paste, take-add, eqb-true, false_from_ne_true, false≢true, take-append-drop, take-append-le, take-take, drop-append-le, take_at, take_more, take_more_set, length-take-le, length-drop, get_or-drop, get_or_default, All-append, All-nil, nat_eq, ◌^◌, append-nil, add-zero, Result, Ok, Err}
 use Rattle.bt_lines.specs.inside.ReadBuffer.{unread, MovesPiece}
 use Rattle.bt_lines.specs.declared.reader.read_buffer.ReadBuffer.{ReadBuffer}
 use Rattle.bt_lines.specs.calls.Output.{block_size}
@@ -235,7 +235,6 @@ module _ {S : Type 0} (device : Source S) where
   -- the bytes read so far follow those that were held
   pub record ReadSoFar (old : S) (old_unread : List ℕ) (old_taken : ℕ) (new : S) (unread : List ℕ) (taken : ℕ) : Type 0 where
     pub bytes : List ℕ
-    pub consumed : Consumes (device.left old) (device.left new) bytes
     pub handed : ReadsOn device.is_read old bytes new
     pub counted : taken ≡ old_taken + length bytes
     pub within : taken < 2 ^ 63
@@ -246,7 +245,6 @@ module _ {S : Type 0} (device : Source S) where
   pub none_yet : (old : S) (unread : List ℕ) (taken : ℕ) → taken < 2 ^ 63 → ReadSoFar old unread taken old unread taken
   none_yet old unread taken within = record {
     bytes = [];
-    consumed = Consumes-nil (device.left old);
     handed = begun;
     counted = sym (add-zero taken);
     within = within;
@@ -260,9 +258,6 @@ module _ {S : Type 0} (device : Source S) where
     module _ {same : List ℕ} (is : same ≡ unread) (clear : NoLineFeed same) where
       never : 0 < line_feeds old_unread → ⊥
       never h = omega (arith, h, line_feeds-none same clear, ap line_feeds (is ∙ so_far.joined), line_feeds-append old_unread so_far.bytes)
-
-      both : (new : S) (next : List ℕ) → Consumes (device.left mid) (device.left new) next → Consumes (device.left old) (device.left new) (so_far.bytes ++ next)
-      both new next c = Consumes-trans (device.left old) (device.left mid) (device.left new) so_far.bytes next so_far.consumed c
 
       on : (new : S) (next : List ℕ) → ReadsOn device.is_read mid next new → ReadsOn device.is_read old (so_far.bytes ++ next) new
       on new next reads = reads_then device.is_read so_far.handed reads
@@ -284,7 +279,7 @@ module _ {S : Type 0} (device : Source S) where
 
       pub more_read : (new : S) (next_unread : List ℕ) (next_taken : ℕ) → AsksMore device mid same taken Bytes new next_unread next_taken
           → ReadSoFar old old_unread old_taken new next_unread next_taken
-      more_read new next_unread next_taken asks = grind (arith, both, on, counts, all, never)
+      more_read new next_unread next_taken asks = grind (arith, on, counts, all, never)
 
       on_stop : (stop : Stop) (new : S) (next : List ℕ) → AreHanded device.is_read stop mid next new → AreHanded device.is_read stop old (so_far.bytes ++ next) new
       on_stop LineFeed new next reads = on new next reads
@@ -294,38 +289,38 @@ module _ {S : Type 0} (device : Source S) where
       on_stop NoMemory new next reads = on new next reads
 
       -- where the reading stopped, after more reads
-      stops_by : (stop : Stop) (new : S) (next complete rest : List ℕ) (next_taken : ℕ) → Consumes (device.left mid) (device.left new) next → AreHanded device.is_read stop old (so_far.bytes ++ next) new → next_taken + uncounted stop ≡ taken + length next → next_taken < 2 ^ 63
-          → StopsWith stop (device.left new) (device.has_failed old) (device.has_failed new) (device.end_told new) (old_unread ++ (so_far.bytes ++ next)) complete rest next_taken
+      stops_by : (stop : Stop) (new : S) (next complete rest : List ℕ) (next_taken : ℕ) → AreHanded device.is_read stop old (so_far.bytes ++ next) new → next_taken + uncounted stop ≡ taken + length next → next_taken < 2 ^ 63
+          → StopsWith stop (device.has_failed old) (device.has_failed new) (old_unread ++ (so_far.bytes ++ next)) complete rest next_taken
           → Buffers device old old_unread old_taken stop new complete rest next_taken
-      stops_by stop new next complete rest next_taken consumed handed counted within stopped = grind (arith, both, counts, never)
+      stops_by stop new next complete rest next_taken handed counted within stopped = grind (arith, counts, never)
 
       pub text_ended : (new : S) (next_unread : List ℕ) (next_taken : ℕ) (complete rest : List ℕ) → AsksMore device mid same taken NoBytes new next_unread next_taken
           → complete ≡ closed next_unread → rest ≡ [] → Buffers device old old_unread old_taken End new complete rest next_taken
       text_ended new next_unread next_taken complete rest asks lines none =
           let is = none_more asks.bytes asks.came.0 in
-          stops_by End new asks.bytes complete rest next_taken asks.consumed (ends new asks.bytes asks.handed) asks.counted asks.within
-          (rw is clear, lines ∙ ap closed (asks.came.1 ∙ sym is), none, asks.came.2 ∙ so_far.served, asks.came.3, asks.came.4)
+          stops_by End new asks.bytes complete rest next_taken (ends new asks.bytes asks.handed) asks.counted asks.within
+          (rw is clear, lines ∙ ap closed (asks.came.1 ∙ sym is), none, asks.came.2 ∙ so_far.served)
 
       pub source_failed : (new : S) (next_unread : List ℕ) (next_taken : ℕ) (complete : List ℕ) → AsksMore device mid same taken BadRead new next_unread next_taken
           → complete ≡ [] → Buffers device old old_unread old_taken Failed new complete next_unread next_taken
       source_failed new next_unread next_taken complete asks none =
           let is = none_more asks.bytes asks.came.0 in
-          stops_by Failed new asks.bytes complete next_unread next_taken asks.consumed (fails new asks.bytes asks.handed) asks.counted asks.within
+          stops_by Failed new asks.bytes complete next_unread next_taken (fails new asks.bytes asks.handed) asks.counted asks.within
           (rw is clear, none, rw asks.came.1 clear, asks.came.2, ([], is ∙ sym asks.came.1))
 
       pub text_too_long : (new : S) (next_unread : List ℕ) (next_taken : ℕ) (complete : List ℕ) → AsksMore device mid same taken PastBound new next_unread next_taken
           → complete ≡ [] → Buffers device old old_unread old_taken TooLong new complete next_unread next_taken
       text_too_long new next_unread next_taken complete asks none =
-          stops_by TooLong new asks.bytes complete next_unread next_taken asks.consumed (on new asks.bytes asks.handed) asks.counted asks.within
+          stops_by TooLong new asks.bytes complete next_unread next_taken (on new asks.bytes asks.handed) asks.counted asks.within
           ((same, asks.bytes, clear, all asks.bytes, asks.came.0), none, asks.came.1, asks.came.2)
 
       -- the line is longer than a block
       pub then_long : (stop : Stop) (new : S) (complete rest : List ℕ) (next_taken : ℕ) → Buffers device mid same taken stop new complete rest next_taken
           → Buffers device old old_unread old_taken stop new complete rest next_taken
       then_long stop new complete rest next_taken long =
-          stops_by stop new long.bytes complete rest next_taken long.consumed (on_stop stop new long.bytes long.handed) long.counted long.within
-          (subst (λ (l : List ℕ). StopsWith stop (device.left new) (device.has_failed old) (device.has_failed new) (device.end_told new) l complete rest next_taken) (sym (all long.bytes))
-          (subst (λ (b : Bool). StopsWith stop (device.left new) b (device.has_failed new) (device.end_told new) (same ++ long.bytes) complete rest next_taken) so_far.served long.stopped))
+          stops_by stop new long.bytes complete rest next_taken (on_stop stop new long.bytes long.handed) long.counted long.within
+          (subst (λ (l : List ℕ). StopsWith stop (device.has_failed old) (device.has_failed new) l complete rest next_taken) (sym (all long.bytes))
+          (subst (λ (b : Bool). StopsWith stop b (device.has_failed new) (same ++ long.bytes) complete rest next_taken) so_far.served long.stopped))
 
 -- Lemmas on a line that is longer than a block.
 
@@ -333,7 +328,6 @@ module _ {S : Type 0} (device : Source S) where
   -- the bytes so far are in the line and in the block, and none in the line is a line feed
   pub record SoFar (old : S) (old_block : List ℕ) (old_taken : ℕ) (new : S) (block text : List ℕ) (taken : ℕ) : Type 0 where
     pub bytes : List ℕ
-    pub consumed : Consumes (device.left old) (device.left new) bytes
     pub handed : ReadsOn device.is_read old bytes new
     pub counted : taken ≡ old_taken + length bytes
     pub within : taken < 2 ^ 63
@@ -345,7 +339,6 @@ module _ {S : Type 0} (device : Source S) where
   pub at_first : (old : S) (block text : List ℕ) (taken : ℕ) → text ≡ [] → taken < 2 ^ 63 → SoFar old block taken old block text taken
   at_first old block text taken empty within = record {
     bytes = [];
-    consumed = Consumes-nil (device.left old);
     handed = begun;
     counted = sym (add-zero taken);
     within = within;
@@ -356,10 +349,10 @@ module _ {S : Type 0} (device : Source S) where
 
   module _ (old : S) {old_block : List ℕ} (old_taken : ℕ) (some : 0 < length old_block) (clear : NoLineFeed old_block) where
     -- the line is buffered, or a fault ends it
-    long_by : (stop : Stop) (new : S) (bytes complete unread : List ℕ) (taken : ℕ) → Consumes (device.left old) (device.left new) bytes → AreHanded device.is_read stop old bytes new → taken + uncounted stop ≡ old_taken + length bytes → taken < 2 ^ 63
-        → StopsWith stop (device.left new) (device.has_failed old) (device.has_failed new) (device.end_told new) (old_block ++ bytes) complete unread taken
+    long_by : (stop : Stop) (new : S) (bytes complete unread : List ℕ) (taken : ℕ) → AreHanded device.is_read stop old bytes new → taken + uncounted stop ≡ old_taken + length bytes → taken < 2 ^ 63
+        → StopsWith stop (device.has_failed old) (device.has_failed new) (old_block ++ bytes) complete unread taken
         → Buffers device old old_block old_taken stop new complete unread taken
-    long_by stop new bytes complete unread taken consumed handed counted within stopped = grind (arith, line_feeds-none)
+    long_by stop new bytes complete unread taken handed counted within stopped = grind (arith, line_feeds-none)
 
     module _ {mid : S} {block text : List ℕ} {taken : ℕ} (so_far : SoFar old old_block old_taken mid block text taken)
         {E : Type 0} {moved : Result Bool E} (new_block new_text : List ℕ) (moves : MovesPiece block text moved new_block new_text) where
@@ -367,7 +360,7 @@ module _ {S : Type 0} (device : Source S) where
       pub at_feed : {complete rest : List ℕ} → moved ≡ Ok true → complete ≡ new_text → rest ≡ new_block → Buffers device old old_block old_taken LineFeed mid complete rest taken
       at_feed {complete} {rest} is lines same =
           let moves = rw is at moves in
-          long_by LineFeed mid so_far.bytes complete rest taken so_far.consumed so_far.handed (add-zero taken ∙ so_far.counted) so_far.within (
+          long_by LineFeed mid so_far.bytes complete rest taken so_far.handed (add-zero taken ∙ so_far.counted) so_far.within (
             rw (lines, same) (so_far.joined ∙ ap (λ l. text ++ l) (moves.2 ∙ sym (append_assoc moves.0 (10 ∷ []) new_block)) ∙ sym (append_assoc text (moves.0 ++ 10 ∷ []) new_block) ∙ ap (λ l. l ++ new_block) (sym moves.3)),
             rw (lines, moves.3) (omega (arith, length-append text (moves.0 ++ 10 ∷ []), length-append moves.0 (10 ∷ []))),
             so_far.served,
@@ -388,7 +381,7 @@ module _ {S : Type 0} (device : Source S) where
       pub at_refusal : {e : E} {complete : List ℕ} → moved ≡ Err e → complete ≡ [] → Buffers device old old_block old_taken NoMemory mid complete new_block taken
       at_refusal {complete} is none =
           let moves = rw is at moves in
-          long_by NoMemory mid so_far.bytes complete new_block taken so_far.consumed so_far.handed (add-zero taken ∙ so_far.counted) so_far.within
+          long_by NoMemory mid so_far.bytes complete new_block taken so_far.handed (add-zero taken ∙ so_far.counted) so_far.within
           ((new_text, rw moves.1 so_far.clear, rw (moves.0, moves.1) so_far.joined), none, so_far.served)
 
       module _ (is : moved ≡ Ok false) where
@@ -411,10 +404,7 @@ module _ {S : Type 0} (device : Source S) where
         some_text = omega (arith, some, ap length whole, length-append old_block so_far.bytes)
 
         module _ (new : S) (next_block : List ℕ) (next_taken : ℕ) where
-          module _ (next : List ℕ) (consumed : Consumes (device.left mid) (device.left new) next) where
-            both_consumed : Consumes (device.left old) (device.left new) (so_far.bytes ++ next)
-            both_consumed = Consumes-trans (device.left old) (device.left mid) (device.left new) so_far.bytes next so_far.consumed consumed
-
+          module _ (next : List ℕ) where
             handed_more : ReadsOn device.is_read mid next new → ReadsOn device.is_read old (so_far.bytes ++ next) new
             handed_more reads = reads_then device.is_read so_far.handed reads
 
@@ -428,35 +418,35 @@ module _ {S : Type 0} (device : Source S) where
             count = length-append so_far.bytes next
 
           pub more_came : (same : List ℕ) → same ≡ new_text → AsksMore device mid new_block taken Bytes new next_block next_taken → SoFar old old_block old_taken new next_block same next_taken
-          more_came same e asks = grind (arith, common_steps, (more asks.bytes), (handed_more asks.bytes asks.consumed asks.handed), no_feed)
+          more_came same e asks = grind (arith, common_steps, (more asks.bytes), (handed_more asks.bytes asks.handed), no_feed)
 
           -- bytes came, if any, and where the reading stopped
           more_by : (stop : Stop) (more : More) (complete rest : List ℕ) (asks : AsksMore device mid new_block taken more new next_block next_taken) → uncounted stop ≡ uncounted_more more
-              → AreHanded device.is_read stop old (so_far.bytes ++ asks.bytes) new → StopsWith stop (device.left new) (device.has_failed old) (device.has_failed new) (device.end_told new) (old_block ++ (so_far.bytes ++ asks.bytes)) complete rest next_taken
+              → AreHanded device.is_read stop old (so_far.bytes ++ asks.bytes) new → StopsWith stop (device.has_failed old) (device.has_failed new) (old_block ++ (so_far.bytes ++ asks.bytes)) complete rest next_taken
               → Buffers device old old_block old_taken stop new complete rest next_taken
           more_by stop more complete rest asks same handed stopped =
-              long_by stop new (so_far.bytes ++ asks.bytes) complete rest next_taken (both_consumed asks.bytes asks.consumed) handed (omega (arith, same, so_far.counted, asks.counted, count asks.bytes asks.consumed)) asks.within stopped
+              long_by stop new (so_far.bytes ++ asks.bytes) complete rest next_taken handed (omega (arith, same, so_far.counted, asks.counted, count asks.bytes)) asks.within stopped
 
           -- the text has ended
           pub none_came : {complete rest : List ℕ} → AsksMore device mid new_block taken NoBytes new next_block next_taken → complete ≡ new_text ++ 10 ∷ [] → rest ≡ next_block
               → Buffers device old old_block old_taken End new complete rest next_taken
           none_came {complete} {rest} asks lines same =
               let is = all_read asks.bytes asks.came.0 in
-              more_by End NoBytes complete rest asks refl (ended_more asks.bytes asks.consumed asks.handed) (rw is no_feed, rw is (lines ∙ sym (closed_some new_text some_text)), same ∙ asks.came.1 ∙ empty, asks.came.2 ∙ so_far.served, asks.came.3, asks.came.4)
+              more_by End NoBytes complete rest asks refl (ended_more asks.bytes asks.handed) (rw is no_feed, rw is (lines ∙ sym (closed_some new_text some_text)), same ∙ asks.came.1 ∙ empty, asks.came.2 ∙ so_far.served)
 
           -- it has, and the line couldn't take its line feed
           pub none_refused : {complete rest : List ℕ} → AsksMore device mid new_block taken NoBytes new next_block next_taken → complete ≡ [] → rest ≡ next_block
               → Buffers device old old_block old_taken NoMemory new complete rest next_taken
           none_refused {complete} {rest} asks none same =
-              more_by NoMemory NoBytes complete rest asks refl (handed_more asks.bytes asks.consumed (reads_ended device.is_read asks.handed))
+              more_by NoMemory NoBytes complete rest asks refl (handed_more asks.bytes (reads_ended device.is_read asks.handed))
               ((new_text, no_feed, more asks.bytes ∙ ap (λ l. new_text ++ l) (asks.came.0 ∙ sym (same ∙ asks.came.1 ∙ empty))), none, asks.came.2 ∙ so_far.served)
 
           pub read_failed : {complete : List ℕ} → AsksMore device mid new_block taken BadRead new next_block next_taken → complete ≡ [] → Buffers device old old_block old_taken Failed new complete next_block next_taken
           read_failed {complete} asks none =
               let gone : next_block ≡ [] = asks.came.1 ∙ empty in
-              more_by Failed BadRead complete next_block asks refl (failed_more asks.bytes asks.consumed asks.handed)
+              more_by Failed BadRead complete next_block asks refl (failed_more asks.bytes asks.handed)
               (rw (all_read asks.bytes asks.came.0) no_feed, none, rw gone (All-nil (λ b. eqb b 10 ≡ false)), asks.came.2, (new_text, more asks.bytes ∙ ap (λ l. new_text ++ l) (asks.came.0 ∙ sym gone)))
 
           pub past_bound : {complete : List ℕ} → AsksMore device mid new_block taken PastBound new next_block next_taken → complete ≡ [] → Buffers device old old_block old_taken TooLong new complete next_block next_taken
           past_bound {complete} asks none =
-              more_by TooLong PastBound complete next_block asks refl (handed_more asks.bytes asks.consumed asks.handed) ((new_text, asks.bytes, no_feed, more asks.bytes, asks.came.0), none, asks.came.1, asks.came.2)
+              more_by TooLong PastBound complete next_block asks refl (handed_more asks.bytes asks.handed) ((new_text, asks.bytes, no_feed, more asks.bytes, asks.came.0), none, asks.came.1, asks.came.2)

@@ -109,7 +109,7 @@ module _ {S : Type 0} (device : Source S) where
       record {
         answers = gives_after old mid new (line_seen line) filled.answers cuts.gives;
         memory = tt;
-        sound = λ h. cuts.sound (filled.kept (record { end = h.end; within = h.within }));
+        sound = λ h. cuts.sound (filled.kept (record { within = h.within }));
       }
 
   -- it is there

@@ -1,5 +1,5 @@
 -- Lemmas on what the reads of a source handed over.
-use Rattle.bt_lines.proofs.Std.{◌∙◌, ◌≡◌, ◌⊎◌, ℕ, ◌+◌, ◌^◌, ◌<◌, ◌≤◌, true, false, false≢true, List, [], ◌++◌, inl, inr, length, refl, subst, IfSome, IsSome, IsAtEnd, Bool, Consumes, Consumes-nil, Consumes-trans, Option, Some, None, sym, ap, add-zero, append-nil, append_assoc, length-append, arith}
+use Rattle.bt_lines.proofs.Std.{◌∙◌, ◌≡◌, ◌⊎◌, ℕ, ◌+◌, ◌^◌, ◌<◌, ◌≤◌, true, false, false≢true, List, [], ◌++◌, inl, inr, length, refl, subst, IsSome, Bool, Option, Some, None, sym, ap, add-zero, append-nil, append_assoc, length-append, arith}
 use Rattle.bt_lines.specs.calls.Line.{line_feeds}
 use Rattle.bt_lines.specs.calls.Device.{EndsAfter, FailsAfter, ReadsOn, begun, gave}
 use Rattle.bt_lines.specs.model.Fault.{FaultValue, read_failed}
@@ -7,7 +7,7 @@ use Rattle.bt_lines.specs.calls.Faults.{no_memory}
 use Rattle.bt_lines.specs.declared.fault.Input.{Input}
 use Rattle.bt_lines.specs.declared.fault.Kind.TheVariants.{NoMemory as OutOfMemory, ReadFailed}
 use Rattle.bt_lines.proofs.lemmas.reader.lines.TextLemmas.{line_feeds-append}
-use Rattle.bt_lines.specs.calls.Reader.{AreRead, EndsKnown, EndsReads, Hands, IsReadFailed, MayStillCome, bytes_taken, end_told, fault_kept, feeds_taken, input_of, source_of}
+use Rattle.bt_lines.specs.calls.Reader.{AreRead, EndsReads, Hands, IsReadFailed, MayStillCome, bytes_taken, end_told, fault_kept, feeds_taken, input_of, source_of}
 use Rattle.bt_lines.specs.declared.device.Source.{Ghosts as Source}
 use Rattle.bt_lines.specs.declared.reader.line_reader.LineReader.{LineReader}
 
@@ -78,21 +78,6 @@ told_or_not : (told : Bool) → (told ≡ true) ⊎ (told ≡ false)
 told_or_not true = inl refl
 told_or_not false = inr refl
 
--- known bytes of which none is left
-consumed_all : (a b : Option (List ℕ)) (bytes : List ℕ) → Consumes a b bytes → IsAtEnd b → IfSome a (λ text. text ≡ bytes)
-consumed_all None b bytes consumed none = tt
-consumed_all (Some text) None bytes consumed none = absurd consumed
-consumed_all (Some text) (Some rest) bytes consumed none = consumed ∙ ap (λ l. bytes ++ l) none ∙ append-nil bytes
-
-all_before : (a : Option (List ℕ)) (first second : List ℕ) → IfSome a (λ text. text ≡ first) → second ≡ [] → IfSome a (λ text. text ≡ first ++ second)
-all_before None first second is none = tt
-all_before (Some text) first second is none = is ∙ sym (append-nil first) ∙ ap (λ l. first ++ l) (sym none)
-
-all_then : (a b : Option (List ℕ)) (first second : List ℕ) → Consumes a b first → IfSome b (λ text. text ≡ second) → IfSome a (λ text. text ≡ first ++ second)
-all_then None b first second consumed is = tt
-all_then (Some text) None first second consumed is = absurd consumed
-all_then (Some text) (Some rest) first second consumed is = consumed ∙ ap (λ l. first ++ l) is
-
 module _ {S : Type 0} (device : Source S) where
   module _ (old new : LineReader S) (bytes : List ℕ) where
     -- bytes came by reads that succeeded
@@ -105,36 +90,23 @@ module _ {S : Type 0} (device : Source S) where
     unfolding AreRead
     read_up_to fails kept = inr (fails, kept)
 
+    -- if the end is reported, the last read did it
     abbrev pub Ends : Type 0
-    Ends = EndsKnown device old bytes new
-        × (end_told old ≡ false → end_told new ≡ true → EndsAfter device.is_read (source_of old) bytes (source_of new))
+    Ends = end_told new ≡ true → EndsAfter device.is_read (source_of old) bytes (source_of new)
 
     -- the end isn't reported
-    pub ends_untold : end_told old ≡ false → end_told new ≡ false → Ends
-    unfolding EndsKnown
-    ends_untold was is = (
-      (λ told. absurd (false≢true (sym was ∙ told)), λ untold told. absurd (false≢true (sym is ∙ told))),
-      λ untold told. absurd (false≢true (sym is ∙ told)),
-    )
-
-    -- it is, and no known byte is left
-    pub ends_told : end_told old ≡ false → Consumes (device.left (source_of old)) (device.left (source_of new)) bytes → IsAtEnd (device.left (source_of new)) → EndsAfter device.is_read (source_of old) bytes (source_of new) → Ends
-    unfolding EndsKnown
-    ends_told was consumed at_end reads = (
-      (λ told. absurd (false≢true (sym was ∙ told)), λ untold told. consumed_all (device.left (source_of old)) (device.left (source_of new)) bytes consumed at_end),
-      λ untold told. reads,
-    )
+    pub ends_untold : end_told new ≡ false → Ends
+    ends_untold is told = absurd (false≢true (sym is ∙ told))
 
     -- before any fault
-    pub hands_by : fault_kept old ≡ None → AreRead device old bytes new → Consumes (device.left (source_of old)) (device.left (source_of new)) bytes → bytes_taken new ≡ bytes_taken old + length bytes
+    pub hands_by : fault_kept old ≡ None → AreRead device old bytes new → bytes_taken new ≡ bytes_taken old + length bytes
         → input_of new ≡ input_of old → (end_told new ≡ false → bytes_taken new < 2 ^ 63 → feeds_taken new ≡ feeds_taken old + line_feeds bytes) → end_told old ≡ false → Ends → Hands device old bytes new
     unfolding EndsReads
-    hands_by going reads consumed counted input feeds untold ends = record {
+    hands_by going reads counted input feeds untold ends = record {
       reads = reads;
-      ends = ends.0;
-      ends_reads = ends_by untold going ends.1;
+      ends = λ told. absurd (false≢true (sym untold ∙ told));
+      ends_reads = ends_by untold going (λ untold. ends);
       stops = λ some. absurd (no_fault (fault_kept old) going some);
-      left_over = consumed;
       counted = counted;
       same_input = input;
       fed = feeds;
@@ -145,14 +117,10 @@ module _ {S : Type 0} (device : Source S) where
         ends_by untold going reads = (λ told. absurd (false≢true (sym untold ∙ told)), reads, λ some. absurd (no_fault (fault_kept old) going some))
 
     -- and none is kept
-    pub hands_on : fault_kept old ≡ None → fault_kept new ≡ None → ReadsOn device.is_read (source_of old) bytes (source_of new) → Consumes (device.left (source_of old)) (device.left (source_of new)) bytes
+    pub hands_on : fault_kept old ≡ None → fault_kept new ≡ None → ReadsOn device.is_read (source_of old) bytes (source_of new)
         → bytes_taken new ≡ bytes_taken old + length bytes → input_of new ≡ input_of old → (end_told new ≡ false → bytes_taken new < 2 ^ 63 → feeds_taken new ≡ feeds_taken old + line_feeds bytes)
         → end_told old ≡ false → Ends → Hands device old bytes new
     hands_on was is reads = hands_by was (read_on reads (λ none failed. absurd (none_failed (fault_kept new) is failed)))
-
-  ends_still : (old new : LineReader S) → end_told new ≡ end_told old → EndsKnown device old [] new
-  unfolding EndsKnown
-  ends_still old new same = (λ told. refl, λ untold told. absurd (false≢true (sym untold ∙ sym same ∙ told)))
 
   reads_still : (old new : LineReader S) → source_of new ≡ source_of old → end_told new ≡ end_told old → EndsReads device old [] new
   unfolding EndsReads
@@ -163,10 +131,9 @@ module _ {S : Type 0} (device : Source S) where
       → (end_told new ≡ false → feeds_taken new ≡ feeds_taken old) → end_told new ≡ end_told old → fault_kept new ≡ fault_kept old → Hands device old [] new
   hands_still old new same taken input feeds told kept = record {
     reads = read_on old new [] (reads_nothing device.is_read (source_of old) (source_of new) same) (λ none failed. absurd (none_failed (fault_kept new) (kept ∙ none) failed));
-    ends = ends_still old new told;
+    ends = λ told. refl;
     ends_reads = reads_still old new same told;
     stops = λ some. (refl, same, kept);
-    left_over = rw same (Consumes-nil (device.left (source_of old)));
     counted = taken ∙ sym (add-zero (bytes_taken old));
     same_input = input;
     fed = λ untold below. feeds untold ∙ sym (add-zero (feeds_taken old));
@@ -178,8 +145,7 @@ module _ {S : Type 0} (device : Source S) where
 
   -- what may still come after a call may come before it, behind the bytes of the call
   pub comes_before : {old new : LineReader S} {bytes : List ℕ} → Hands device old bytes new → (rest : List ℕ) → MayStillCome new rest → MayStillCome old (bytes ++ rest)
-  unfolding EndsKnown
-  comes_before hands rest follows = λ told. rw (hands.ends.0 told, follows (hands.told_stays told)) refl
+  comes_before hands rest follows = λ told. rw (hands.ends told, follows (hands.told_stays told)) refl
 
   -- one call after another
   module _ {old mid new : LineReader S} {first second : List ℕ} (p : Hands device old first mid) (q : Hands device mid second new) where
@@ -203,19 +169,11 @@ module _ {S : Type 0} (device : Source S) where
             let ends = q.stops (rw one.1.2 refl) in
             inr (rw (ends.0, ends.1, append-nil first) one.0, subst IsReadFailed (sym ends.2) one.1)
 
-    ends_joined : EndsKnown device old (first ++ second) new
-    unfolding EndsKnown
-    ends_joined = (
-      λ told. rw (p.ends.0 told, q.ends.0 (p.told_stays told)) refl,
-      λ untold told. go untold told (told_or_not (end_told mid)),
-    )
-      where
-        go : end_told old ≡ false → end_told new ≡ true → (end_told mid ≡ true) ⊎ (end_told mid ≡ false) → IfSome (device.left (source_of old)) (λ text. text ≡ first ++ second)
-        go untold told (inl was) = all_before (device.left (source_of old)) first second (p.ends.1 untold was) (q.ends.0 was)
-        go untold told (inr was) = all_then (device.left (source_of old)) (device.left (source_of mid)) first second p.left_over (q.ends.1 was told)
+    ends_joined : end_told old ≡ true → first ++ second ≡ []
+    ends_joined told = rw (p.ends told, q.ends (p.told_stays told)) refl
 
     reads_ends_joined : EndsReads device old (first ++ second) new
-    unfolding EndsReads EndsKnown AreRead
+    unfolding EndsReads AreRead
     reads_ends_joined = (
       λ told. q.ends_reads.0 (p.told_stays told) ∙ p.ends_reads.0 told,
       λ untold told. go untold told (told_or_not (end_told mid)) p.reads,
@@ -223,7 +181,7 @@ module _ {S : Type 0} (device : Source S) where
     )
       where
         go : end_told old ≡ false → end_told new ≡ true → (end_told mid ≡ true) ⊎ (end_told mid ≡ false) → AreRead device old first mid → EndsAfter device.is_read (source_of old) (first ++ second) (source_of new)
-        go untold told (inl was) reads = rw (q.ends.0 was, append-nil first, q.ends_reads.0 was) (p.ends_reads.1 untold was)
+        go untold told (inl was) reads = rw (q.ends was, append-nil first, q.ends_reads.0 was) (p.ends_reads.1 untold was)
         go untold told (inr was) (inl on) = ends_later device.is_read on.0 (q.ends_reads.1 was told)
         go untold told (inr was) (inr fails) = absurd (false≢true (sym was ∙ sym (q.ends_reads.2 (rw fails.1.2 refl)) ∙ told))
 
@@ -239,7 +197,6 @@ module _ {S : Type 0} (device : Source S) where
     ends = ends_joined p q;
     ends_reads = reads_ends_joined p q;
     stops = stops_joined p q;
-    left_over = Consumes-trans (device.left (source_of old)) (device.left (source_of mid)) (device.left (source_of new)) first second p.left_over q.left_over;
     counted = omega (arith, p.counted, q.counted, length-append first second);
     same_input = q.same_input ∙ p.same_input;
     fed = λ untold below. grind (arith, p.fed, q.fed, p.told_stays, q.told_stays, p.counted, q.counted, line_feeds-append first second);

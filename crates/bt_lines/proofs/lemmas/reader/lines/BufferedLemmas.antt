@@ -1,5 +1,5 @@
 -- Lemmas on a line that is taken of those that are buffered.
-use Rattle.bt_lines.proofs.Std.{common_steps, ◌≡◌, ◌⊎◌, ℕ, suc, ◌+◌, ◌-◌, ◌<◌, ◌≤◌, Bool, true, false, cond, List, [], ◌∷◌, ◌++◌, length, take, drop, Option, refl, sym, ap, ◌∙◌, subst, append_assoc, append-nil, length-append, add-zero, arith, nat_lt, ends_with_byte, strip_last, take-append_seam, length-take, Consumes-nil, Consumes, ◌^◌, drop-drop, length-drop, take-append-drop, take_all, take-add, drop_all, drop_more}
+use Rattle.bt_lines.proofs.Std.{common_steps, ◌≡◌, ◌⊎◌, ℕ, suc, ◌+◌, ◌-◌, ◌<◌, ◌≤◌, Bool, true, false, cond, List, [], ◌∷◌, ◌++◌, length, take, drop, Option, refl, sym, ap, ◌∙◌, subst, append_assoc, append-nil, length-append, add-zero, arith, nat_lt, ends_with_byte, strip_last, take-append_seam, length-take, ◌^◌, drop-drop, length-drop, take-append-drop, take_all, take-add, drop_all, drop_more}
 use Rattle.bt_lines.specs.declared.device.Source.{Ghosts as Source}
 use Rattle.bt_lines.proofs.lemmas.reader.block.BufferLemmas.{unread_fits, fed_none, fed_clear, fed_drop, fed_after, fed_push}
 use Rattle.bt_lines.proofs.lemmas.reader.block.ReadsLemmas.{reads_nothing}
@@ -92,10 +92,9 @@ module _ {S : Type 0} (device : Source S) (old new : LineReader S) {line : Shown
       let end_is : end ≡ cond (ends_with_byte 13 cut.piece) CrLf Lf = ending ∙ rw is (fed_ending _ cut.piece cut.returned) in
       let is_line : given_line ≡ fed_line (suc old.lines) cut.piece = rw (numbered, end_is, text_is) refl in
       let short : length (held new) ≤ block_size = rw now.holds near in
-      let none : Consumes (device.left old.source) (device.left new.source) [] = rw same_source (Consumes-nil (device.left old.source)) in
       cuts_as device old new given_line _ is_line
-      (gives_fed device new [] cut.piece was now same next none (reads_nothing device.is_read old.source new.source same_source) (same_taken ∙ sym (add-zero old.taken)) holds cut.clear short (λ h. same_source) (ap device.has_failed same_source))
-      (sound_fed device new [] cut.piece was now same next none (reads_nothing device.is_read old.source new.source same_source) (same_taken ∙ sym (add-zero old.taken)) holds cut.clear short (λ h. same_source) (ap device.has_failed same_source))
+      (gives_fed device new [] cut.piece was now same next (reads_nothing device.is_read old.source new.source same_source) (same_taken ∙ sym (add-zero old.taken)) holds cut.clear short (λ h. same_source) (ap device.has_failed same_source))
+      (sound_fed device new [] cut.piece was now same next (reads_nothing device.is_read old.source new.source same_source) (same_taken ∙ sym (add-zero old.taken)) holds cut.clear short (λ h. same_source) (ap device.has_failed same_source))
 
   cut_last : old.state ≡ LastLine → CutsFirst device old given_line new
   unfolding source_of input_of lines_given held has_ended

@@ -1,5 +1,5 @@
 -- Lemmas on a step of the reader of lines.
-use Rattle.bt_lines.proofs.Std.{common_steps, ◌≡◌, ℕ, suc, ◌+◌, ◌-◌, ◌^◌, ◌<◌, ◌≤◌, ◌⊎◌, inl, inr, true, false, cond, List, [], ◌∷◌, ◌++◌, length, None, Some, Ok, Err, take, refl, sym, ap, ◌∙◌, subst, append_assoc, append-nil, length-append, arith, is_some, take_all, false≢true, take-append-add, take-append_seam, Consumes, IsAtEnd, ends_with_byte, strip_last}
+use Rattle.bt_lines.proofs.Std.{common_steps, ◌≡◌, ℕ, suc, ◌+◌, ◌-◌, ◌^◌, ◌<◌, ◌≤◌, ◌⊎◌, inl, inr, true, false, cond, List, [], ◌∷◌, ◌++◌, length, None, Some, Ok, Err, take, refl, sym, ap, ◌∙◌, subst, append_assoc, append-nil, length-append, arith, is_some, take_all, false≢true, take-append-add, take-append_seam, ends_with_byte, strip_last}
 use Rattle.bt_lines.specs.declared.device.Source.{Ghosts as Source}
 use Rattle.bt_lines.proofs.lemmas.reader.block.BufferLemmas.{unread_fits, one_line}
 use Rattle.bt_lines.proofs.lemmas.reader.lines.TextLemmas.{lines_from-fed, lines_from-last, lines_from-nil, spelled-fed, line_feeds-append, line_feeds-none, line_feeds-fed, bytes_behind_first}
@@ -8,7 +8,7 @@ use Rattle.bt_lines.specs.model.Lines.{TextLine, fed_line, last_line, lines_from
 use Rattle.bt_lines.specs.model.Fault.{read_failed}
 use Rattle.bt_lines.specs.calls.Faults.{no_memory}
 use Rattle.bt_lines.specs.inside.Shape.{held_at, IsLast}
-use Rattle.bt_lines.proofs.lemmas.reader.block.ReadsLemmas.{Ends, reads_ended, ends_told, ends_untold, hands_by, hands_on, hands_still, memory_failed, read_on, read_up_to}
+use Rattle.bt_lines.proofs.lemmas.reader.block.ReadsLemmas.{Ends, reads_ended, ends_untold, hands_by, hands_on, hands_still, memory_failed, read_on, read_up_to}
 use Rattle.bt_lines.specs.calls.Device.{EndsAfter, ReadsOn}
 use Rattle.bt_lines.specs.inside.Spill.{Buffers, closed}
 use Rattle.bt_lines.specs.calls.Output.{block_size}
@@ -55,7 +55,7 @@ told_ended reader e = record { good = rw e refl; is_told = rw e refl; taken = rw
 -- ---- a line with a line feed
 
 module _ {S : Type 0} (device : Source S) {old : LineReader S} (new : LineReader S) (bytes piece : List ℕ) (was : Goes old) (is : Goes new)
-    (same : input_of new ≡ input_of old) (more : lines_given new ≡ suc (lines_given old)) (consumed : Consumes (device.left (source_of old)) (device.left (source_of new)) bytes) (reads : ReadsOn device.is_read (source_of old) bytes (source_of new))
+    (same : input_of new ≡ input_of old) (more : lines_given new ≡ suc (lines_given old)) (reads : ReadsOn device.is_read (source_of old) bytes (source_of new))
     (counted : new.taken ≡ old.taken + length bytes) (joined : held old ++ bytes ≡ piece ++ 10 ∷ held new) (clear : NoLineFeed piece)
     (near : length (held new) ≤ block_size) (ready : 0 < line_feeds (held old) → source_of new ≡ source_of old) (served : device.has_failed (source_of new) ≡ device.has_failed (source_of old)) where
   fed_size : length (held old) + length bytes ≡ length piece + suc (length (held new))
@@ -73,7 +73,7 @@ module _ {S : Type 0} (device : Source S) {old : LineReader S} (new : LineReader
   fed_feeds = grind (arith, line_feeds-append, line_feeds-fed)
 
   fed_hands : Hands device old bytes new
-  fed_hands = hands_on device old new bytes was.good is.good reads consumed (omega (arith, is.taken, was.taken, counted)) same (λ untold below. fed_feeds) was.untold (ends_untold device old new bytes was.untold is.untold)
+  fed_hands = hands_on device old new bytes was.good is.good reads (omega (arith, is.taken, was.taken, counted)) same (λ untold below. fed_feeds) was.untold (ends_untold device old new bytes is.untold)
 
   fed_held : held old ++ bytes ≡ spelled (fed_line (suc (lines_given old)) piece) ++ held new
   fed_held = grind (arith, (spelled-fed (suc (lines_given old)) piece), (append_assoc piece (10 ∷ []) (held new)))
@@ -150,7 +150,7 @@ module _ {S : Type 0} (device : Source S) {old : LineReader S} (new : LineReader
 -- ---- a line that was made buffered
 
 module _ {S : Type 0} (device : Source S) (old new : LineReader S) (bytes : List ℕ) (was : Goes old)
-    (same : input_of new ≡ input_of old) (same_lines : lines_given new ≡ lines_given old) (consumed : Consumes (device.left (source_of old)) (device.left (source_of new)) bytes) (reads : ReadsOn device.is_read (source_of old) bytes (source_of new))
+    (same : input_of new ≡ input_of old) (same_lines : lines_given new ≡ lines_given old) (reads : ReadsOn device.is_read (source_of old) bytes (source_of new))
     (taken : bytes_taken new ≡ bytes_taken old + length bytes) (holds : held new ≡ held old ++ bytes) (good : fault_kept new ≡ None)
     (ready : 0 < line_feeds (held old) → source_of new ≡ source_of old) (served : device.has_failed (source_of new) ≡ device.has_failed (source_of old))
     (some : 0 < length (buffered_bytes new)) (within : bytes_taken new < 2 ^ 63) (empty : buffered_bytes old ≡ []) where
@@ -159,10 +159,10 @@ module _ {S : Type 0} (device : Source S) (old new : LineReader S) (bytes : List
   made_feeds = grind (arith, line_feeds-append)
 
   made_hands : Ends device old new bytes → Hands device old bytes new
-  made_hands = hands_on device old new bytes was.good good reads consumed taken same (λ untold below. made_feeds) was.untold
+  made_hands = hands_on device old new bytes was.good good reads taken same (λ untold below. made_feeds) was.untold
 
-  makes : Ends device old new bytes → (end_told new ≡ true → (device.end_told (source_of new) ≡ true) × IsAtEnd (device.left (source_of new))) → FillsLines device old (Ok true) new
-  makes ends told = record {
+  makes : Ends device old new bytes → FillsLines device old (Ok true) new
+  makes ends = record {
     answers = record {
       some = some;
       bytes = (bytes, made_hands ends, holds);
@@ -174,23 +174,23 @@ module _ {S : Type 0} (device : Source S) (old new : LineReader S) (bytes : List
       within = within;
     };
     unread = λ h. absurd (omega (arith, h, ap length empty));
-    kept = λ h. record { end = told; within = λ e. within };
+    kept = λ h. record { within = λ e. within };
   }
 
   pub makes_line : end_told new ≡ false → FillsLines device old (Ok true) new
-  makes_line untold = makes (ends_untold device old new bytes was.untold untold) (λ told. absurd (false≢true (sym untold ∙ told)))
+  makes_line untold = makes (ends_untold device old new bytes untold)
 
-  pub makes_last : end_told new ≡ true → device.end_told (source_of new) ≡ true → IsAtEnd (device.left (source_of new)) → EndsAfter device.is_read (source_of old) bytes (source_of new) → FillsLines device old (Ok true) new
-  makes_last is_told told none reads = makes (ends_told device old new bytes was.untold consumed none reads) (λ e. (told, none))
+  pub makes_last : EndsAfter device.is_read (source_of old) bytes (source_of new) → FillsLines device old (Ok true) new
+  makes_last reads = makes (λ told. reads)
 
 -- ---- the end of the text
 
 module _ {S : Type 0} (device : Source S) (old new : LineReader S) (bytes : List ℕ) (was : Goes old) (is : IsTold new)
-    (same : input_of new ≡ input_of old) (same_lines : lines_given new ≡ lines_given old) (consumed : Consumes (device.left (source_of old)) (device.left (source_of new)) bytes) (reads : ReadsOn device.is_read (source_of old) bytes (source_of new))
+    (same : input_of new ≡ input_of old) (same_lines : lines_given new ≡ lines_given old) (reads : ReadsOn device.is_read (source_of old) bytes (source_of new))
     (counted : new.taken ≡ old.taken + length bytes) (nothing : held old ++ bytes ≡ []) (gone : held new ≡ [])
-    (served : device.has_failed (source_of new) ≡ device.has_failed (source_of old)) (told : device.end_told (source_of new) ≡ true) (none : IsAtEnd (device.left (source_of new))) (ended : has_ended new ≡ true) (empty : buffered_bytes old ≡ []) (ends_reads : EndsAfter device.is_read (source_of old) bytes (source_of new)) where
+    (served : device.has_failed (source_of new) ≡ device.has_failed (source_of old)) (ended : has_ended new ≡ true) (empty : buffered_bytes old ≡ []) (ends_reads : EndsAfter device.is_read (source_of old) bytes (source_of new)) where
   end_hands : Hands device old bytes new
-  end_hands = hands_on device old new bytes was.good is.good reads consumed (omega (arith, is.taken, was.taken, counted)) same (λ untold below. absurd (false≢true (sym untold ∙ is.is_told))) was.untold (ends_told device old new bytes was.untold consumed none ends_reads)
+  end_hands = hands_on device old new bytes was.good is.good reads (omega (arith, is.taken, was.taken, counted)) same (λ untold below. absurd (false≢true (sym untold ∙ is.is_told))) was.untold (λ told. ends_reads)
 
   pub fills_end : FillsLines device old (Ok false) new
   fills_end = record {
@@ -206,7 +206,7 @@ module _ {S : Type 0} (device : Source S) (old new : LineReader S) (bytes : List
       again = λ e. absurd (false≢true (sym was.open_ended ∙ e));
     };
     unread = λ h. absurd (omega (arith, h, ap length empty));
-    kept = λ h. record { end = λ e. (told, none); within = λ e. rw is.taken new.counted };
+    kept = λ h. record { within = λ e. rw is.taken new.counted };
   }
 
 -- ---- a line that couldn't be given
@@ -225,7 +225,6 @@ pub record CutLine {S : Type 0} (device : Source S) (old new : LineReader S) (by
   pub no_line : line_feeds (held old) ≡ 0
   pub same : input_of new ≡ input_of old
   pub same_lines : lines_given new ≡ lines_given old
-  pub consumed : Consumes (device.left (source_of old)) (device.left (source_of new)) bytes
   pub reads : AreRead device old bytes new
   pub counted : bytes_taken new ≡ bytes_taken old + length bytes
   pub joined : held old ++ bytes ≡ text ++ behind
@@ -242,7 +241,7 @@ module _ {S : Type 0} {device : Source S} {old new : LineReader S} {bytes text b
   cut_feeds below = omega (arith, line.same_lines, line.holds below)
 
   cut_hands : Hands device old bytes new
-  cut_hands = hands_by device old new bytes line.was.good line.reads line.consumed line.counted line.same (λ untold. cut_feeds) line.was.untold (ends_untold device old new bytes line.was.untold line.untold)
+  cut_hands = hands_by device old new bytes line.was.good line.reads line.counted line.same (λ untold. cut_feeds) line.was.untold (ends_untold device old new bytes line.untold)
 
   cut_near : IsNear old bytes new
   unfolding lines_coming
@@ -274,7 +273,7 @@ module _ {S : Type 0} {device : Source S} {old new : LineReader S} {bytes text b
       served = served;
     };
     unread = λ h. absurd (omega (arith, h, ap length line.empty));
-    kept = λ h. record { end = λ e. absurd (false≢true (sym line.untold ∙ e)); within = λ e. absurd (let apart : None ≡ Some (fault_value fault) = sym e ∙ line.kept in cc) };
+    kept = λ h. record { within = λ e. absurd (let apart : None ≡ Some (fault_value fault) = sym e ∙ line.kept in cc) };
   }
 
 -- ---- the same, by the fields of the reader
@@ -299,11 +298,11 @@ module _ {S : Type 0} {device : Source S} (old new : LineReader S) (going : old.
 
   pub last_step : stop ≡ StopEnd → (length (complete new.buffer) ≡ 0 → ⊥) → new.state ≡ LastLine → FillsLines device old (Ok true) new
   unfolding source_of input_of lines_given held buffered_bytes end_told
-  last_step is some state = let b = rw is at buffers in let reads = reads_ended device.is_read b.handed in grind (arith, goes, told_last, held_closed, makes_last, b.handed, reads)
+  last_step is some state = let b = rw is at buffers in let reads = reads_ended device.is_read b.handed in grind (arith, goes, told_last, held_closed, (makes_last device old new b.bytes (goes old going)), b.handed, reads)
 
   pub end_step : stop ≡ StopEnd → length (complete new.buffer) ≡ 0 → new.state ≡ Ended → FillsLines device old (Ok false) new
   unfolding source_of input_of lines_given held has_ended
-  end_step is empty state = let b = rw is at buffers in let reads = reads_ended device.is_read b.handed in grind (arith, goes, fills_end, told_ended, nothing_buffered, b.handed, reads)
+  end_step is empty state = let b = rw is at buffers in let reads = reads_ended device.is_read b.handed in grind (arith, (fills_end device old new b.bytes (goes old going) (told_ended new state)), nothing_buffered, b.handed, reads)
 
   no_feeds : (stop ≡ StopLineFeed → ⊥) → line_feeds (held old) ≡ 0
   no_feeds other = rw old_holds (grind arith)
@@ -332,7 +331,6 @@ module _ {S : Type 0} {device : Source S} (old new : LineReader S) (going : old.
           no_line = no_feeds (λ e. let apart : StopLineFeed ≡ Failed = sym e ∙ is in cc);
           same = same;
           same_lines = same_lines;
-          consumed = b.consumed;
           reads = read_up_to device old new b.bytes b.handed (old.input, suc old.lines, rw (state, same, same_lines) refl);
           counted = rw (state, was.taken) counted;
           joined = sym (append-nil (held old ++ b.bytes));
@@ -362,7 +360,6 @@ module _ {S : Type 0} {device : Source S} (old new : LineReader S) (going : old.
           no_line = no_feeds (λ e. let apart : StopLineFeed ≡ StopTooLong = sym e ∙ is in cc);
           same = same;
           same_lines = same_lines;
-          consumed = b.consumed;
           reads = read_on device old new b.bytes b.handed (λ none failed. rw state (omega (arith, b.stopped.3)));
           counted = rw (state, was.taken) counted;
           joined = joined;
@@ -391,7 +388,6 @@ module _ {S : Type 0} {device : Source S} (old new : LineReader S) (going : old.
           no_line = no_feeds (λ e. let apart : StopLineFeed ≡ StopNoMemory = sym e ∙ is in cc);
           same = same;
           same_lines = same_lines;
-          consumed = b.consumed;
           reads = read_on device old new b.bytes b.handed (λ none failed. absurd (memory_failed (fault_kept new) (rw state refl) failed));
           counted = rw (state, was.taken) (omega (arith, b.counted));
           joined = joined;

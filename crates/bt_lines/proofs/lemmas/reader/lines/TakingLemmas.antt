@@ -208,7 +208,7 @@ module _ {S : Type 0} (device : Source S) (old new : LineReader S) (n : ℕ) (ta
       )
 
   kept_taken : IsKept device old → IsKept device new
-  kept_taken h = record { end = λ e. rw sources (h.end (sym told_taken ∙ e)); within = λ e. rw same_bytes (h.within (sym fault_taken ∙ e)) }
+  kept_taken h = record { within = λ e. rw same_bytes (h.within (sym fault_taken ∙ e)) }
 
   -- nothing is handed over
   hands_taken : Hands device old [] new

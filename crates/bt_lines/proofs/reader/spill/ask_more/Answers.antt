@@ -6,13 +6,11 @@ use Rattle.bt_lines.proofs.reader.spill.ask_more.Goals as goal
 pub returns-in-Ok-eq0-clause-asks : goal.returns-in-Ok-eq0-clause-asks
 returns-in-Ok-eq0-clause-asks g c =
     let got = c.in-Ok-eq0.ensures.bytes.1 in
-    let end = c.in-Ok-eq0.ensures.end c.in-Ok-eq0.field-0-test in
     let none : got.0 ≡ [] = nil_from_length got.0 (sym got.1 ∙ c.in-Ok-eq0.field-0-test) in
     record {
       bytes = got.0;
-      consumed = got.2;
-      handed = ends_once g.S.Source.is_read c.args.source.now c.read_more.new.source got.0 none got.4;
+      handed = ends_once g.S.Source.is_read c.args.source.now c.read_more.new.source got.0 none got.3;
       counted = ap (λ l. c.args.taken.now + length l) (sym none);
       within = c.requires.counted;
-      came = (none, got.3 ∙ ap (λ l. unread c.args.buffer.now ++ l) none ∙ append-nil (unread c.args.buffer.now), c.in-Ok-eq0.ensures.served, end.0, end.1);
+      came = (none, got.2 ∙ ap (λ l. unread c.args.buffer.now ++ l) none ∙ append-nil (unread c.args.buffer.now), c.in-Ok-eq0.ensures.served);
     }

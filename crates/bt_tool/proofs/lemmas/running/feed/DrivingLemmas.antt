@@ -290,7 +290,7 @@ abbrev member_on : TextLine → Alignment → Member Alignment
 member_on line a = record { line = line.number; item = a }
 
 kept_of : {S : Type 0} (device : Source S) (reader : LineReader S) → IsSound device reader → IsKept device reader
-kept_of device reader sound = record { end = sound.end; within = sound.within }
+kept_of device reader sound = record { within = sound.within }
 
 module _ {S : Type 0} (split cigar : Bool) (device : Source S) where
   abbrev lines_of : List Alignment → List ℕ

@@ -52,11 +52,7 @@ none_read (Some source) = Some (record { bytes = []; told = false; failed = fals
 
 -- a source that wasn't read
 pub reads_nothing : {S : Type 0} (device : Source S) (source : S) → ReadsSo device source (record { bytes = []; told = false; failed = false }) source
-reads_nothing device source = record { went = begun; known = all_left (device.left source) }
-  where
-    all_left : (left : Option (List ℕ)) → IfSome left (λ text. (rest : List ℕ) × (text ≡ [] ++ rest) × (false ≡ true → rest ≡ []))
-    all_left None = tt
-    all_left (Some text) = (text, refl, λ e. absurd (false≢true e))
+reads_nothing device source = record { went = begun }
 
 pub reads_none : {S : Type 0} (device : Source S) (source : Option S) → ReadsSoIf device source (none_read source) source
 unfolding none_read

@@ -346,7 +346,7 @@ module _ {S : Type 0} (device : Source S) (full : Bool) where
       to = record {
         count = count;
         near = λ rest follows. rw (← given_is, ← lines_now rest follows)
-            (sound_near device new (record { end = (takes.kept g.kept).end; within = (takes.kept g.kept).within; near = λ none. held_block }) clear rest);
+            (sound_near device new (record { within = (takes.kept g.kept).within; near = λ none. held_block }) clear rest);
         behind = λ rest follows. behind_by (coming (g.bytes.0 ++ rest) old) (whole rest follows);
       };
       low = low_then;

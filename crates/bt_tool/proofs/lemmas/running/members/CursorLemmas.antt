@@ -4,7 +4,7 @@ use Rattle.bt_lines.proofs.lemmas.reader.block.BufferLemmas.{fed_clear, fed_drop
 use Rattle.bt_lines.proofs.lemmas.reader.lines.TextLemmas.{lines_from-fed, lines_from-last, lines_from-nil, spelled-fed, by_lines, lines_are_numbered, whole_lines_are_numbered, bytes_in-lines, line_feeds-append, line_feeds-fed, whole_count, whole_lines_from-fed, whole_lines_from-last, bytes_in-append, whole_front}
 use Rattle.bt_lines.proofs.lemmas.reader.lines.BufferedLemmas.{lines_taken}
 use Rattle.bt_lines.proofs.lemmas.reader.block.ReadsLemmas.{none_failed}
-use Rattle.bt_lines.specs.calls.Reader.{BeginsLines, EndsKnown, IsWhere, PassesLines, buffered_lines, lines_in, rest_in, TakenLines, buffered_bytes, is_open, lines_given, AreRead, EndsReads, Hands, IsReadFailed, MayStillCome, source_of, bytes_taken, feeds_taken, IsSound, end_told, fault_kept, input_of, lines_coming}
+use Rattle.bt_lines.specs.calls.Reader.{BeginsLines, IsWhere, PassesLines, buffered_lines, lines_in, rest_in, TakenLines, buffered_bytes, is_open, lines_given, AreRead, EndsReads, Hands, IsReadFailed, MayStillCome, source_of, bytes_taken, feeds_taken, IsSound, end_told, fault_kept, input_of, lines_coming}
 use Rattle.bt_lines.specs.model.Lines.{TextLine, bytes_in, fed_line, last_line, lines_from, spelled, whole_lines_from, Handed, whole_text, text_lines}
 use Rattle.bt_lines.specs.calls.Line.{AreNumbered, line_feeds}
 use Rattle.bt_lines.specs.inside.Shape.{IsLast, is_fed}
@@ -16,7 +16,6 @@ use Rattle.bt_lines.specs.model.Fault.{FaultValue, read_failed}
 use Rattle.bt_lines.specs.declared.fault.Input.{Input}
 use Rattle.bt_tool.specs.calls.Run.{TellsNoRead, TellsRead}
 use Rattle.bt_tool.specs.calls.Inputs.{CameOf, InputRead, MayHold, ReadsAs, ReadsSo, handed_by}
-use Rattle.std.specs.Io.KnownBytes.{Consumes}
 use Rattle.bt_lines.specs.calls.Device.{ReadsOn}
 use Rattle.bt_lines.specs.inside.ReadBuffer.{fault_at, told_at}
 use Rattle.bt_lines.specs.declared.reader.line_reader.State.{State}
@@ -274,11 +273,6 @@ pub record ReadOf {S : Type 0} (device : Source S) (old : LineReader S) (bytes :
   pub reads : ReadsAs (end_told new) failed device.is_read (source_of old) bytes (source_of new)
   pub kept : failed ≡ true → IsReadFailed (fault_kept new)
   pub past : failed ≡ false → IsReadFailed (fault_kept new) → 2 ^ 63 ≤ bytes_taken new
-  pub known : IfSome (device.left (source_of old)) (λ text. (rest : List ℕ) × (text ≡ bytes ++ rest) × (end_told new ≡ true → rest ≡ []))
-
--- nothing comes after all
-none_behind : (all rest : List ℕ) → all ++ rest ≡ all → rest ≡ []
-none_behind all rest e = nil_from_length rest (omega (arith, ap length e, length-append all rest))
 
 -- a reader that keeps a failed read wasn't told the end
 failed_untold : {S : Type 0} (reader : LineReader S) → IsReadFailed (fault_kept reader) → end_told reader ≡ false
@@ -290,21 +284,12 @@ failed_untold reader kept = told_by reader.state kept.2
 
 module _ {S : Type 0} (device : Source S) {old : LineReader S} {bytes : List ℕ} {new : LineReader S} (hands : Hands device old bytes new) (untold : end_told old ≡ false) (going : fault_kept old ≡ None) where
   pub read_of : ReadOf device old bytes new
-  unfolding AreRead EndsReads EndsKnown
+  unfolding AreRead EndsReads
   read_of = go (end_told new) refl hands.reads
     where
       served : (told : Bool) → end_told new ≡ told → ReadsOn device.is_read (source_of old) bytes (source_of new) → ReadsAs told false device.is_read (source_of old) bytes (source_of new)
       served true e reads = hands.ends_reads.1 untold e
       served false e reads = reads
-
-      known_by : (text left : Option (List ℕ)) → Consumes text left bytes → (end_told new ≡ true → IfSome text (λ text. text ≡ bytes))
-          → IfSome text (λ text. (rest : List ℕ) × (text ≡ bytes ++ rest) × (end_told new ≡ true → rest ≡ []))
-      known_by None left takes all = tt
-      known_by (Some whole) None takes all = absurd takes
-      known_by (Some whole) (Some rest) takes all = (rest, takes, λ told. none_behind bytes rest (sym takes ∙ all told))
-
-      known_of : IfSome (device.left (source_of old)) (λ text. (rest : List ℕ) × (text ≡ bytes ++ rest) × (end_told new ≡ true → rest ≡ []))
-      known_of = known_by (device.left (source_of old)) (device.left (source_of new)) hands.left_over (hands.ends.1 untold)
 
       go : (told : Bool) → end_told new ≡ told → AreRead device old bytes new → ReadOf device old bytes new
       go told e (inl on) = record {
@@ -312,14 +297,12 @@ module _ {S : Type 0} (device : Source S) {old : LineReader S} {bytes : List ℕ
         reads = subst (λ t. ReadsAs t false device.is_read (source_of old) bytes (source_of new)) (sym e) (served told e on.0);
         kept = λ failed. absurd (false≢true failed);
         past = λ never failed. on.1 going failed;
-        known = known_of;
       }
       go told e (inr fails) = record {
         failed = true;
         reads = subst (λ t. ReadsAs t true device.is_read (source_of old) bytes (source_of new)) (sym (failed_untold new fails.1)) fails.0;
         kept = λ failed. fails.1;
         past = λ served. absurd (false≢true (sym served));
-        known = known_of;
       }
 
 -- Lemmas on what is good of an input that a reader of members took.
@@ -371,7 +354,7 @@ module _ {S A State : Type 0} (device : Source S) {format : Format A State} {inp
   pub reads_so : ReadsSo device first read last
   reads_so =
       subst (λ (s : S). ReadsSo device s read last) begins.source
-      (subst (λ (s : S). ReadsSo device (source_of old.below) read s) ended (record { went = of_reader.reads; known = of_reader.known }))
+      (subst (λ (s : S). ReadsSo device (source_of old.below) read s) ended (record { went = of_reader.reads }))
 
   counted : length bytes ≡ bytes_taken new.below
   counted = omega (arith, hands.counted, begins.bytes)

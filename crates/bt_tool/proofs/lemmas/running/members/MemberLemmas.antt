@@ -136,7 +136,7 @@ module _ {S A State : Type 0} (device : Source S) (old : MemberReader S A State)
     lines = λ rest follows. rw fresh.none_given.0 refl;
     going = fresh.going;
     clear = fresh.clear;
-    kept = record { end = fresh.sound.end; within = fresh.sound.within };
+    kept = record { within = fresh.sound.within };
     served = refl;
     ahead = λ m is. absurd (nothing_ahead old m fresh.none_buffered is);
     near = λ rest follows. near_more (lines_coming rest old.below) 0 (suc (lines_given old.below)) (length rest + block_size) (omega arith) (sound_near device old.below fresh.sound fresh.clear rest);
@@ -357,7 +357,7 @@ module _ {S A State : Type 0} (device : Source S) (old : MemberReader S A State)
         let count = lines_given now.below + length xs in
         let given : suc count ≡ lines_given new.below = omega (arith, has.takes.given, size) in
         let near : (rest : List ℕ) → bytes_in (lines_coming rest new.below) ≤ length rest + block_size =
-        λ rest. sound_near device new.below (record { end = p.kept.end; within = p.kept.within; near = λ none. has.takes.near (omega (arith, size)) }) p.clear rest in
+        λ rest. sound_near device new.below (record { within = p.kept.within; near = λ none. has.takes.near (omega (arith, size)) }) p.clear rest in
         record {
           to = record {
             count = count;
@@ -423,7 +423,7 @@ module _ {S A State : Type 0} {device : Source S} {old now : MemberReader S A St
   near_line : (rest : List ℕ) → MayStillCome new.below rest → bytes_in (drop (lines_given new.below) (lines_coming ((g.bytes.0 ++ bytes) ++ rest) old.below)) ≤ length rest + block_size
   near_line rest follows =
       let was = kept g.kept in
-      rw (← lines rest follows) (sound_near device new.below (record { end = was.end; within = was.within; near = λ fine. gives.ahead }) gives.goes rest)
+      rw (← lines rest follows) (sound_near device new.below (record { within = was.within; near = λ fine. gives.ahead }) gives.goes rest)
 
   coming_before : (rest : List ℕ) → MayStillCome new.below rest → coming ((g.bytes.0 ++ bytes) ++ rest) old ≡ with_members past (good_after now.format (input_of now.below) now.state (lines_coming (bytes ++ rest) now.below))
   coming_before rest follows = come_then device old past now g gives.bytes.1 rest follows ∙ ap (with_members past) (good_is device now g.going (bytes ++ rest))

@@ -98,7 +98,7 @@ module _ {S A State : Type 0} (device : Source S) (old : MemberReader S A State)
   before_line count at from passed clear near = record {
     passed = passed;
     from = from;
-    near = λ rest follows. rw (at, ← answers.lines clear rest follows) (sound_near device new.below (record { end = next.end; within = next.within; near = λ none. near }) clear rest);
+    near = λ rest follows. rw (at, ← answers.lines clear rest follows) (sound_near device new.below (record { within = next.within; near = λ none. near }) clear rest);
   }
 
   -- at a line that wasn't given

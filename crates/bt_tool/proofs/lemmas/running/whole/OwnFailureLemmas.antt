@@ -105,7 +105,7 @@ module _ {G : Type 0} {device : Source G} {genome after : G} {old : LineReader G
     reads_so : ReadsSo device genome read after
     reads_so =
         subst (λ (s : G). ReadsSo device s read after) source
-        (subst (λ (s : G). ReadsSo device (source_of old) read s) ended (record { went = of_genome.reads; known = of_genome.known }))
+        (subst (λ (s : G). ReadsSo device (source_of old) read s) ended (record { went = of_genome.reads }))
 
     -- if no failed read is kept, none failed
     not_failed : TellsNoRead (fault_kept new) → of_genome.failed ≡ false
@@ -148,7 +148,7 @@ module _ {G : Type 0} {device : Source G} {genome after : G} {old : LineReader G
       distinct = reads.distinct;
       served = sym (ap device.has_failed ended) ∙ reads.served ∙ ap device.has_failed source;
       no_failed = not_failed hands (none_tells (line_fault new) reads.going);
-      ended = (reads.told, sym (ap device.end_told ended) ∙ (next.end reads.told).0);
+      ended = reads.told;
     }
 
     pub knows_all : (read : Option InputRead) × KnowsChromosomes device (Some genome) read (Some after) (Some table)
@@ -165,7 +165,7 @@ module _ {G : Type 0} {device : Source G} {genome after : G} {old : LineReader G
         let more = drop (2 ^ 63 - 1) bytes.0 ++ came.rest in
         let text : front ++ more ≡ bytes.0 ++ came.rest = sym (append_assoc front (drop (2 ^ 63 - 1) bytes.0) came.rest) ∙ ap (λ l. l ++ came.rest) (take-append-drop (2 ^ 63 - 1) bytes.0) in
         let same : line_feeds (take (2 ^ 63 - 1 - bytes_taken old) bytes.0) ≡ line_feeds front = ap (λ n. line_feeds (take (2 ^ 63 - 1 - n) bytes.0)) fresh in
-        let given : lines_given new ≡ line_feeds front = omega (arith, unread.fails.cut (record { end = sound.end; within = sound.within }), unfed, same) in
+        let given : lines_given new ≡ line_feeds front = omega (arith, unread.fails.cut (record { within = sound.within }), unfed, same) in
         let first : genome_of FromGenome (take (line_feeds front) (text_lines (front ++ more))) ≡ Ok unread.given =
         ap (λ t. genome_of FromGenome (take (line_feeds front) (text_lines t))) text
         ∙ ap (λ n. genome_of FromGenome (take n (text_lines (bytes.0 ++ came.rest)))) (sym (omega (arith, given, none_given)))

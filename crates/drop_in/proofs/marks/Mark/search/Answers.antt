@@ -1,4 +1,5 @@
 use Rattle.bt_lines.proofs.Std.{arith, ◌≡◌, ◌-◌, drop, length, min, take, ◌+◌, [], ◌++◌, sym, ◌∙◌, ap, inl, inr, subst, refl, append-nil, length-append, length-take-le, false≢true}
+use Rattle.bt_lines.proofs.lemmas.reader.block.ReadsLemmas.{ends_later, ends_once}
 use Rattle.bt_lines.specs.calls.Device.{begun, gave}
 use Rattle.std.proofs.lemmas.Slice.{take-put_mid}
 use Rattle.drop_in.specs.calls.Marks.{HasMark, overlap}
@@ -16,14 +17,15 @@ returns-in-Ok-eq0 g c =
     let bytes = c.loop.invariant.0 in
     let piece = take c.in-Ok-eq0.field-0 c.read.new.block in (
       bytes ++ piece,
-      inl (gave c.loop.invariant.1 _ _ c.in-Ok-eq0.ensures.handed, grind (arith, c.in-Ok-eq0.ensures.end, c.read.auto.block, c.loop.invariant.3)),
+      inl (ends_later g.S.Source.is_read c.loop.invariant.1
+          (ends_once g.S.Source.is_read _ _ _ (ap (λ count. take count c.read.new.block) c.in-Ok-eq0.field-0-test) (c.in-Ok-eq0.ensures.handed (omega (arith, c.read.auto.block, c.loop.invariant.3))))),
       rw c.in-Ok-eq0.field-0-test (subst (λ all. ¬ HasMark c.args.self all) (sym (append-nil bytes)) c.loop.invariant.2),
     )
 
 pub returns-in-Err : goal.returns-in-Err
 returns-in-Err g c = (
   c.loop.invariant.0,
-  inr (record { before = c.loop.source; served = c.loop.invariant.1; fails = c.in-Err.ensures.handed }),
+  inr (record { before = c.loop.source; served = c.loop.invariant.1; fails = c.in-Err.ensures.handed (omega (arith, c.read.auto.block, c.loop.invariant.3)) }),
   c.loop.invariant.2,
 )
 
@@ -38,7 +40,7 @@ returns-then-is_in g c =
     (take-put_mid kept (65564 - kept) c.loop.block c.read.new.block (kept + length c.read.new.block) refl fits)
     ∙ ap (λ last. last ++ piece) c.loop.invariant.4 in
     let has = subst (HasMark c.args.self) block (c.is_in.ensures.0 c.if-is_in.true) in
-    (bytes ++ piece, gave c.loop.invariant.1 _ _ c.in-Ok.ensures.handed, mark_last bytes piece kept c.loop.invariant.3 c.args.self has)
+    (bytes ++ piece, gave c.loop.invariant.1 _ _ (c.in-Ok.ensures.handed (omega (arith, c.read.auto.block, c.loop.invariant.3))), mark_last bytes piece kept c.loop.invariant.3 c.args.self has)
 
 pub loop-preserved : goal.loop-preserved
 loop-preserved g c =
@@ -57,7 +59,7 @@ loop-preserved g c =
     ] in
     let count : c.keep_last-kept.result ≡ min (kept + length piece) overlap = rw long c.keep_last-kept.ensures.count in (
       bytes ++ piece,
-      gave c.loop.invariant.1 _ _ c.in-Ok.ensures.handed,
+      gave c.loop.invariant.1 _ _ (c.in-Ok.ensures.handed (omega (arith, c.read.auto.block, c.loop.invariant.3))),
       none,
       omega (arith, length-append bytes piece, count, c.loop.invariant.3),
       c.keep_last-kept.ensures.last

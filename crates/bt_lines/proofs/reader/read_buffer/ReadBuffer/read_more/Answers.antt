@@ -28,4 +28,4 @@ returns-clause-bytes g c =
     let both = behind_read mid.bytes _ mid.whole mid.end c.in_ok-count.count (omega (arith, mid.whole_searched, mid.searched_within)) ensures.before (omega (arith, ensures.size, ensures.count, c.min-most.ensures, mid.within)) in
     let count : ℕ = c.in_ok-count.count in
     let bytes : List ℕ = c.read_behind.new.bytes in
-    (omega (arith, ensures.count, c.min-most.ensures), (slice_range bytes mid.end (mid.end + count), both.0, ensures.bytes, both.1 ∙ ap (λ l. l ++ slice_range bytes mid.end (mid.end + count)) c.move_front.ensures.unread, ensures.handed))
+    (omega (arith, ensures.count, c.min-most.ensures), (slice_range bytes mid.end (mid.end + count), both.0, both.1 ∙ ap (λ l. l ++ slice_range bytes mid.end (mid.end + count)) c.move_front.ensures.unread, ensures.handed))
