@@ -15,15 +15,19 @@
 //! ```
 #![tactic(auto)]
 
-ghost use Rattle.std.specs.Prelude.{◌≡◌, ◌⊎◌, Ok, Err};
+ghost use Rattle.std.specs.Prelude.{◌≡◌, ◌⊎◌, None, Ok, Err};
 ghost use Rattle.bt_tool.specs.model.Options.{PlanSeen, options};
 ghost use Rattle.bt_tool.specs.calls.Plan.{words_seen};
 ghost use Rattle.bt_tool.specs.model.Usage.{usage_text};
 ghost use Rattle.bt_tool.specs.declared.options.usage.Usage.{Usage};
 ghost use Rattle.bt_files.specs.calls.Ending.{Ends, LeavesAll};
 ghost use Rattle.bt_files.specs.calls.Message.{Says, SaysNoMemory};
+ghost use Rattle.bt_files.specs.calls.RealFiles.{ReportsRealRun};
 
-use bt_files::{Files, Finished, Message, Obstacle, StandIns, SystemFiles, carry_out};
+use bt_files::{
+    Files, Finished, Message, Obstacle, Opened, Output, StandIns, SystemFiles, carry_out,
+    real_files_get_their_report,
+};
 use bt_tool::{Refusal, plan};
 use std::alloc::Global;
 use std::process::ExitCode;
@@ -43,7 +47,7 @@ fn main(rt: HostRuntime) -> ExitCode {
 // Reads the words of the command line and starts with them.
 fn start_by_words(rt: &HostRuntime) -> Message {
     match words(rt) {
-        Ok(words) => start(rt.alloc(), &mut SystemFiles { rt }, words.as_slice()).message,
+        Ok(words) => start_over_system(rt, words.as_slice()).message,
         Err(error) if error.kind() == io::ErrorKind::OutOfMemory => {
             Message::of(rt.alloc(), &Obstacle::NoMemory)
         }
@@ -58,6 +62,17 @@ fn words(rt: &HostRuntime) -> io::Result<Vec<String>> {
         all.push(word)?;
     }
     Ok(all)
+}
+
+// Makes the plan and carries it out over the files of the system.
+fn start_over_system(rt: &HostRuntime, words: &[String]) -> Finished<Opened, Output>
+    ensures usage { (usage : Usage) → options (words_seen words.now) ≡ Err usage
+        → Says (usage_text (words_seen words.now) usage) 2 result.message × (result.left ≡ None) }
+    ensures run { (plan : PlanSeen) → options (words_seen words.now) ≡ Ok plan
+        → ReportsRealRun plan result.message result.left }
+{
+    real_files_get_their_report();
+    start(rt.alloc(), &mut SystemFiles { rt }, words)
 }
 
 // Makes the plan and carries it out over these files. Without a plan nothing is asked of them.
@@ -123,7 +138,7 @@ mod tests {
         for word in command.split_whitespace() {
             words.push(String::from_str(rt.alloc(), word)?)?;
         }
-        Ok(start(rt.alloc(), &mut SystemFiles { rt }, words.as_slice()).message)
+        Ok(start_over_system(rt, words.as_slice()).message)
     }
 
     fn expect(rt: &impl Abort, message: &Message, end: &str, row: &str) {

@@ -1,4 +1,5 @@
 pub mod Ending
+pub mod Logged
 pub mod Message
 pub mod Opened
 pub mod RealFiles

@@ -34,6 +34,7 @@ mod example;
 mod files;
 mod headline;
 mod identity;
+mod logged;
 mod message;
 mod moved_bytes;
 mod opened;

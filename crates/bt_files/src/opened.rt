@@ -1,10 +1,9 @@
 //! An input that the program has opened: a file or standard input.
 
 ghost use Rattle.std.specs.Prelude.{◌≡◌, IfOk};
-ghost use Rattle.bt_lines.specs.calls.Device.{TellsFailure};
-ghost use Rattle.bt_files.specs.calls.Opened.{HandsOver, IsUnused, file_named, input_meant, opened_handed, opened_has_failed};
+ghost use Rattle.bt_files.specs.calls.Opened.{IsUnused, file_named, input_meant, opened_source};
 
-use crate::moved_bytes::{MovedBytes, Piece};
+use crate::logged::Logged;
 use bt_lines::{DeviceFailed, FromRead, Source};
 use bt_tool::is_standard_input;
 use std::fs::File;
@@ -15,14 +14,12 @@ use std::io::Stdin;
 #[derive(Drop)]
 pub struct Opened {
     pub(crate) device: Device,
-    // What the device handed over since it was opened.
-    pub(crate) handed: MovedBytes,
 }
 
 #[derive(Drop)]
 pub(crate) enum Device {
-    File(FromRead<File>),
-    Standard(FromRead<Stdin>),
+    File(Logged<FromRead<File>>),
+    Standard(Logged<FromRead<Stdin>>),
 }
 
 impl Opened {
@@ -31,13 +28,10 @@ impl Opened {
         ensures { IfOk result (IsUnused name.now) }
     {
         let device = match input_named(name) {
-            Input::Standard => Device::Standard(FromRead::new(rt.stdin())),
-            Input::File(name) => Device::File(FromRead::new(File::open(rt, name)?)),
+            Input::Standard => Device::Standard(Logged::new(FromRead::new(rt.stdin()))),
+            Input::File(name) => Device::File(Logged::new(FromRead::new(File::open(rt, name)?))),
         };
-        Ok(Opened {
-            device,
-            handed: MovedBytes::new(),
-        })
+        Ok(Opened { device })
     }
 }
 
@@ -60,20 +54,15 @@ pub fn input_named(name: &str) -> Input<'_>
 }
 
 impl Source for Opened {
-    ghost has_failed = { opened_has_failed };
+    ghost has_failed = { opened_source.has_failed };
 
-    ghost is_read = { λ before call after. TellsFailure call (opened_has_failed before) (opened_has_failed after)
-        × HandsOver (opened_handed before) call (opened_handed after) };
+    ghost is_read = { opened_source.is_read };
 
     fn read(&mut self, block: &mut [u8]) -> Result<usize, DeviceFailed> {
-        let count = match &mut self.device {
-            Device::File(source) => source.read(block)?,
-            Device::Standard(source) => source.read(block)?,
-        };
-        self.handed = self.handed.with(&Piece {
-            bytes: &block[..count],
-        });
-        Ok(count)
+        match &mut self.device {
+            Device::File(source) => source.read(block),
+            Device::Standard(source) => source.read(block),
+        }
     }
 
     fn failed(&self) -> bool {

@@ -1,9 +1,10 @@
 //! Where the program writes to: standard output or a file.
 
-ghost use Rattle.std.specs.Prelude.{◌≡◌, [], Some, IfOk, false, true};
-ghost use Rattle.bt_files.specs.calls.Opened.{output_has_failed, output_is_file, output_is_flushed, output_took};
+ghost use Rattle.std.specs.Prelude.{◌≡◌, ◌<◌, ◌≤◌, [], Some, IfOk, IsErr, IsTrue, OnErr, OnOk, false, is_err, length, true};
+ghost use Rattle.std.specs.Io.KnownBytes.{Keeps, WriteAppends};
+ghost use Rattle.bt_files.specs.calls.Opened.{output_has_failed, output_is_file, output_is_flushed, output_sink, output_took};
 
-use crate::moved_bytes::{MovedBytes, Piece};
+use crate::logged::Logged;
 use bt_lines::{DeviceFailed, Sink, ToWrite};
 use std::fs::File;
 use std::io;
@@ -12,15 +13,14 @@ use std::io::Stdout;
 /// An output. `run` writes to it in blocks of 8,192 bytes, and nothing is held back after them.
 #[derive(Drop)]
 pub struct Output {
+    // Not called again once it has failed.
     pub(crate) device: Device,
-    // What the device took since it was opened.
-    pub(crate) taken: MovedBytes,
 }
 
 #[derive(Drop)]
 pub(crate) enum Device {
-    Standard(ToWrite<Stdout>),
-    File(ToWrite<File>),
+    Standard(Logged<ToWrite<Stdout>>),
+    File(Logged<ToWrite<File>>),
 }
 
 impl Output {
@@ -30,8 +30,7 @@ impl Output {
         ensures none { output_took result ≡ [] }
     {
         Output {
-            device: Device::Standard(ToWrite::new(rt.stdout())),
-            taken: MovedBytes::new(),
+            device: Device::Standard(Logged::new(ToWrite::new(rt.stdout()))),
         }
     }
 
@@ -42,33 +41,49 @@ impl Output {
     {
         let file = File::create(rt, name)?;
         Ok(Output {
-            device: Device::File(ToWrite::new(file)),
-            taken: MovedBytes::new(),
+            device: Device::File(Logged::new(ToWrite::new(file))),
         })
     }
 }
 
 impl Sink for Output {
-    ghost took = { λ output. Some (output_took output) };
+    ghost took = { output_sink.took };
 
-    ghost has_failed = { output_has_failed };
+    ghost has_failed = { output_sink.has_failed };
 
-    ghost last_failed = { output_has_failed };
+    ghost last_failed = { output_sink.last_failed };
 
-    ghost is_flushed = { output_is_flushed };
+    ghost is_flushed = { output_sink.is_flushed };
 
-    fn write(&mut self, bytes: &[u8]) -> Result<usize, DeviceFailed> {
-        let count = match &mut self.device {
-            Device::Standard(sink) => sink.write(bytes)?,
-            Device::File(sink) => sink.write(bytes)?,
-        };
-        self.taken = self.taken.with(&Piece {
-            bytes: &bytes[..count],
-        });
-        Ok(count)
+    fn write(&mut self, bytes: &[u8]) -> Result<usize, DeviceFailed>
+        ensures within { IfOk result (λ n. n ≤ length bytes.now) }
+        ensures progress { IfOk result (λ n. 0 < length bytes.now → 0 < n) }
+        ensures bytes { WriteAppends (Some (output_took self.old)) (Some (output_took self.new)) result bytes.now }
+        ensures served { OnOk result (output_has_failed self.new ≡ output_has_failed self.old) }
+        ensures failed { OnErr result (output_has_failed self.new ≡ true) }
+        ensures last { output_has_failed self.new ≡ is_err result }
+        ensures for_good { IsTrue (output_has_failed self.old) → IsErr result × (self.new ≡ self.old) }
+    {
+        if self.failed() {
+            return Err(DeviceFailed);
+        }
+        match &mut self.device {
+            Device::Standard(sink) => sink.write(bytes),
+            Device::File(sink) => sink.write(bytes),
+        }
     }
 
-    fn flush(&mut self) -> Result<(), DeviceFailed> {
+    fn flush(&mut self) -> Result<(), DeviceFailed>
+        ensures bytes { Keeps (Some (output_took self.old)) (Some (output_took self.new)) }
+        ensures flushed { OnOk result (output_is_flushed self.new ≡ true) }
+        ensures served { OnOk result (output_has_failed self.new ≡ output_has_failed self.old) }
+        ensures failed { OnErr result (output_has_failed self.new ≡ true) }
+        ensures last { output_has_failed self.new ≡ is_err result }
+        ensures for_good { IsTrue (output_has_failed self.old) → IsErr result × (self.new ≡ self.old) }
+    {
+        if self.failed() {
+            return Err(DeviceFailed);
+        }
         match &mut self.device {
             Device::Standard(sink) => sink.flush(),
             Device::File(sink) => sink.flush(),

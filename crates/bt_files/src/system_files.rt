@@ -1,7 +1,6 @@
 //! The files that the system has.
 
-ghost use Rattle.std.specs.Prelude.{⊤};
-ghost use Rattle.bt_files.specs.calls.Opened.{IsUnused, IsUnwritten};
+ghost use Rattle.bt_files.specs.calls.RealFiles.{system_files};
 
 use crate::files::{Files, Unopened};
 use crate::identity::is_input;
@@ -21,11 +20,11 @@ impl Files for SystemFiles<'_> {
 
     type Output = Output;
 
-    ghost opens = { λ before name input after. IsUnused name input };
+    ghost opens = { system_files.opens };
 
-    ghost creates = { λ before name output after. IsUnwritten name output };
+    ghost creates = { system_files.creates };
 
-    ghost refuses = { λ before name after. ⊤ };
+    ghost refuses = { system_files.refuses };
 
     fn open(&mut self, name: &str) -> Result<Opened, Unopened> {
         match Opened::open(self.rt, name) {

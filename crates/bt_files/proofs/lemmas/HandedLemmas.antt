@@ -1,15 +1,14 @@
 -- What real inputs hand over, and what a run over them gives.
+use Rattle.std.proofs.Common.{inl, inr}
 use Rattle.bt_lines.proofs.Std.{◌≡◌, ◌∙◌, ◌++◌, ℕ, Bool, List, [], Option, Some, None, IfSome, refl, sym, ap, subst, append-nil, append_assoc, true, false, option_map}
 use Rattle.bt_lines.specs.calls.Device.{ReadsOn, begun, gave}
-use Rattle.bt_lines.specs.model.Fault.{FaultValue}
-use Rattle.bt_lines.specs.model.Lines.{Handed, whole_text}
+use Rattle.bt_lines.specs.model.Lines.{whole_text}
 use Rattle.bt_tool.specs.calls.Inputs.{InputRead, MayHold, OfBoth, ReadsAs, ReadsSo, ReadsSoIf}
-use Rattle.bt_tool.specs.calls.Run.{InputsMayHold}
 use Rattle.bt_tool.specs.model.Options.{PlanSeen}
 use Rattle.bt_tool.specs.model.Table.{Word}
 use Rattle.bt_files.specs.calls.Ending.{OpensIf, ReportsItsRun}
-use Rattle.bt_files.specs.calls.Opened.{opened_handed, opened_source, output_sink, output_took}
-use Rattle.bt_files.specs.calls.RealFiles.{IsReadOf, IsRealRun, handed_texts, real_files_get_their_report, system_files}
+use Rattle.bt_files.specs.calls.Opened.{opened_handed, opened_source, output_sink}
+use Rattle.bt_files.specs.calls.RealFiles.{IsReadOf, IsRealRun, real_files_get_their_report, system_files}
 use Rattle.bt_files.specs.declared.carrying_out.OpenedFiles.{OpenedFiles}
 use Rattle.bt_files.specs.declared.message.Message.{Message}
 use Rattle.bt_files.specs.declared.opened.Opened.{Opened}
@@ -60,8 +59,9 @@ holds_if (Some read) (Some input) is = holds read input is
 holds_if None (Some input) is = absurd is
 holds_if (Some read) None is = absurd is
 
-pub real_run : real_files_get_their_report
-real_run before plan message left after run ran left_is =
+-- a run over real files, and what its inputs may hold
+run_of : (before : SystemFiles) (plan : PlanSeen) (message : Message) (left : Option (OpenedFiles Opened Output)) (after : SystemFiles) (run : OpenedFiles Opened Output) (ran : ReportsItsRun system_files opened_source output_sink before plan message left after) → left ≡ Some run → IsRealRun plan run ran.ran.report.read ran.fault
+run_of before plan message left after run ran left_is =
     let report = ran.ran.report in
     let same : run ≡ record { genome = ran.genome_after; first = ran.first_after; second = ran.second_after; output = ran.out_after } = (let is = sym left_is ∙ ran.left_so in cc) in
     let inputs = ran.opened.inputs in
@@ -74,14 +74,24 @@ real_run before plan message left after run ran left_is =
       genome_file = genome_is;
       first_input = first_is;
       second_input = second_is;
-      told = λ of_input.
-          let said = report.told (handed_texts (record { genome = ran.genome_after; first = ran.first_after; second = ran.second_after; output = ran.out_after })) [] (record {
-            genome_file = holds_if report.read.genome ran.genome_after genome_is;
-            first_input = holds report.read.first ran.first_after first_is;
-            second_input = holds_if report.read.second ran.second_after second_is;
-          }) none of_input in
+      handed = record {
+        genome_file = holds_if report.read.genome ran.genome_after genome_is;
+        first_input = holds report.read.first ran.first_after first_is;
+        second_input = holds_if report.read.second ran.second_after second_is;
+      };
+      told = λ of_input texts may.
+          let said = report.told texts [] may none of_input in
           (said.0, (let is = said.1 in cc));
       prefix = λ texts may.
           let said = report.prefix texts [] may none in
           (said.1, said.3 ∙ ap (λ l. l ++ said.1) (let is = said.2 in cc));
     })
+
+no_run : (P : OpenedFiles Opened Output → Type 0) (left : Option (OpenedFiles Opened Output)) → left ≡ None → IfSome left P
+no_run P left is = subst (λ run. IfSome run P) (sym is) tt
+
+pub real_run : real_files_get_their_report
+real_run before plan message left after (inl unopened) = no_run _ left unopened.1
+real_run before plan message None after (inr ran) = tt
+real_run before plan message (Some run) after (inr ran) =
+    (ran.ran.report.read, ran.fault, run_of before plan message (Some run) after run ran refl, ran.reports)

@@ -1,12 +1,12 @@
 -- What a run over the system's files gives: its inputs are files or standard input, its output is a file or standard output.
-use Rattle.std.specs.Prelude.{◌≡◌, List, ℕ, [], ◌++◌, Option, Some, None, option_map, ⊤}
+use Rattle.std.specs.Prelude.{◌≡◌, List, ℕ, ◌++◌, Option, IfSome, option_map, ⊤}
 use Rattle.bt_lines.specs.model.Fault.{FaultValue}
 use Rattle.bt_lines.specs.model.Lines.{whole_text}
 use Rattle.bt_tool.specs.calls.Inputs.{InputRead, OfBoth}
 use Rattle.bt_tool.specs.calls.Run.{InputsMayHold, InputsRead, IsOfInput}
 use Rattle.bt_tool.specs.model.Options.{PlanSeen}
 use Rattle.bt_tool.specs.model.Report.{Inputs, report_of}
-use Rattle.bt_files.specs.calls.Ending.{ReportsItsRun}
+use Rattle.bt_files.specs.calls.Ending.{Ends, ReportsRun}
 use Rattle.bt_files.specs.calls.Opened.{IsUnused, IsUnwritten, opened_handed, opened_source, output_sink, output_took}
 use Rattle.bt_files.specs.declared.carrying_out.OpenedFiles.{OpenedFiles}
 use Rattle.bt_files.specs.declared.files.Files.{Ghosts as Files}
@@ -35,25 +35,33 @@ handed_texts run = record {
 abbrev pub IsReadOf : InputRead → Opened → Type 0
 IsReadOf read input = read.bytes ≡ opened_handed input
 
--- how a run over real files left them, by what was read and the fault that it ended with, or without one
+-- How a run over real files left them, by what was read and the fault that it ended with, or without one. A failed read, of
+-- which the fault tells, may also be an input of 2^63 bytes or more.
 pub record IsRealRun (plan : PlanSeen) (run : OpenedFiles Opened Output) (read : InputsRead) (fault : Option FaultValue)
     : Type 0 where
   -- what was read of each input is all that it handed over
   pub genome_file : OfBoth IsReadOf read.genome run.genome
   pub first_input : IsReadOf read.first run.first
   pub second_input : OfBoth IsReadOf read.second run.second
-  -- if no device and no growth failed, the fault and the bytes that the output took are those of the report on that
-  pub told : IsOfInput fault
-      → (fault ≡ (report_of plan.command (handed_texts run)).fault)
-      × (output_took run.output ≡ (report_of plan.command (handed_texts run)).output)
-  -- whatever failed, those bytes begin the report on any texts that begin with what was handed over
+  -- so that may be their whole texts
+  pub handed : InputsMayHold read (handed_texts run)
+  -- If no device's failure and no refused growth is reported, the fault and the bytes that the output took are those of the
+  -- report on these texts, or on any others that the inputs may hold.
+  pub told : IsOfInput fault → (inputs : Inputs) → InputsMayHold read inputs
+      → (fault ≡ (report_of plan.command inputs).fault)
+      × (output_took run.output ≡ (report_of plan.command inputs).output)
+  -- whatever failed, those bytes begin the report's output
   pub prefix : (inputs : Inputs) → InputsMayHold read inputs
       → (rest : List ℕ) × ((report_of plan.command inputs).output ≡ output_took run.output ++ rest)
 
--- every run over them is so
+-- If the plan was run, it was so, over real files, and how it ended is reported.
+abbrev pub ReportsRealRun : PlanSeen → Message → Option (OpenedFiles Opened Output) → Type 0
+ReportsRealRun plan message left = IfSome left (λ run. (read : InputsRead) × (fault : Option FaultValue)
+    × IsRealRun plan run read fault × ReportsRun plan fault message)
+
+-- each plan that is carried out over them ends so
 abbrev pub real_files_get_their_report : Type 0
 real_files_get_their_report =
     (before : SystemFiles) (plan : PlanSeen) (message : Message) (left : Option (OpenedFiles Opened Output))
-    (after : SystemFiles) (run : OpenedFiles Opened Output)
-    (ran : ReportsItsRun system_files opened_source output_sink before plan message left after)
-    → left ≡ Some run → IsRealRun plan run ran.ran.report.read ran.fault
+    (after : SystemFiles) → Ends system_files opened_source output_sink before plan message left after
+    → ReportsRealRun plan message left

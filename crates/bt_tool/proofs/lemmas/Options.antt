@@ -1,5 +1,5 @@
 -- Lemmas on the words of a command line.
-use Rattle.bt_lines.proofs.Std.{common_steps, rules, ◌≡◌, ℕ, ◌+◌, ◌<◌, ◌≤◌, Bool, true, false, List, [], ◌∷◌, length, Option, Some, None, Err, drop, refl, sym, ap, ◌∙◌, arith, length-drop, Result, Ok, is_some, if◌then◌else◌, IfOk, IfErr, cond, subst, All, String, bytes_eq, option_and_then, string_bytes, unwrap_or, option_or, length-map, All-head, All-tail, not, option_map, IsSome, list_any, false≢true, or_parts, ◌++◌, add-zero, drop_of_length-le, drop-cons, get_or, drop-map}
+use Rattle.bt_lines.proofs.Std.{common_steps, rules, ◌≡◌, ℕ, ◌+◌, ◌<◌, ◌≤◌, Bool, true, false, List, [], ◌∷◌, length, Option, Some, None, Err, drop, refl, sym, ap, ◌∙◌, arith, length-drop, Result, Ok, is_some, if◌then◌else◌, IfErr, cond, subst, All, String, bytes_eq, option_and_then, string_bytes, unwrap_or, option_or, length-map, All-head, All-tail, not, option_map, IsSome, list_any, false≢true, or_parts, ◌++◌, add-zero, drop_of_length-le, drop-cons, get_or, drop-map}
 use Rattle.bt_tool.specs.declared.options.tool.Tool.{Tool}
 use Rattle.bt_tool.specs.declared.options.usage.Usage.{Usage}
 use Rattle.bt_tool.specs.model.Usage.{Item, items_of, no_command, unknown_option, required_missing, options_exclusive, input_named_twice, words_of, value_missing, bad_value}
@@ -89,9 +89,9 @@ pub options-tellable : (words : List Word) (usage : Usage) → options words ≡
     → IsTellable usage (length words)
 options-tellable words usage e = named-tellable words (command_of words) usage refl e
 
-pub reports_plan : {E : Type 0} (words : List Word) (result : Result Plan E) → IfOk result (λ plan. options words ≡ Ok (plan_seen plan)) → IfOk result (λ plan. ReportsAnswer words (Ok (plan_seen plan)))
+pub reports_plan : (words : List Word) (plan : Plan) → options words ≡ Ok (plan_seen plan) → ReportsAnswer words (Ok (plan_seen plan))
 unfolding report
-reports_plan words result h = grind arith
+reports_plan words plan h = grind arith
 
 refusal_reports : (words : List Word) (refusal : Refusal) → IsRefusalOf words refusal → ReportsRefusal words refusal
 unfolding report

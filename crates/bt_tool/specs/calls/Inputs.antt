@@ -1,5 +1,5 @@
 -- What a run read of its inputs, and what their texts may be.
-use Rattle.std.specs.Prelude.{◌≡◌, ℕ, ◌-◌, ◌^◌, ◌≤◌, Bool, true, false, ⊤, List, [], ◌++◌, length, nat_le, take, Option, Some, None, IfSome}
+use Rattle.std.specs.Prelude.{◌≡◌, ℕ, ◌-◌, ◌^◌, ◌≤◌, Bool, true, false, ⊤, List, [], ◌++◌, length, nat_le, take, Option, Some, None}
 use Rattle.bt_lines.specs.declared.device.Source.{Ghosts as Source}
 use Rattle.bt_lines.specs.calls.Device.{EndsAfter, FailsAfter, ReadsOn, TellsText}
 use Rattle.bt_lines.specs.model.Lines.{Handed, whole_text}

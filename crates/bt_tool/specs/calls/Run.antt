@@ -113,6 +113,10 @@ AnswersNoRead (Err fault) = TellsNoRead (Some (fault_value fault))
 abbrev pub NoneFailed : Option InputRead → Type 0
 NoneFailed read = IfSome read (λ read. read.failed ≡ false)
 
+-- the end of an input that may not be there was reported
+abbrev pub IsReadToEnd : Option InputRead → Type 0
+IsReadToEnd read = IfSome read (λ read. read.told ≡ true)
+
 -- What reading the genome file of a run does, if it has one.
 
 module _ {G : Type 0} (device : Source G) where
@@ -129,8 +133,7 @@ module _ {G : Type 0} (device : Source G) where
     pub distinct : IfSome table (λ table. AreDistinct (names_of table))
     pub served : ServesIf device.has_failed before after
     pub no_failed : NoneFailed read
-    -- the file's end was reported
-    pub ended : IfSome read (λ read. read.told ≡ true)
+    pub ended : IsReadToEnd read
 
   -- the genome file is at fault, or couldn't be read
   pub record LacksChromosomes (before : Option G) (read : Option InputRead) (after : Option G)
@@ -180,11 +183,14 @@ module _ {A B : Type 0} (source_a : Source A) (source_b : Source B) (behaviour :
         → MayHold one handed → OfBoth MayHold two others → out.put ≡ Some before → (front : List ℕ) × (rest : List ℕ)
         × ((behaviour.report handed others).output ≡ front ++ rest) × (grown.put ≡ Some (before ++ front))
     pub grows : Grows out.took grown.took
-    -- without a fault no device failed
+    -- without a fault the inputs were read to their ends
+    pub ended : fault ≡ None → (one.told ≡ true) × IsReadToEnd two
+    -- and no source failed
     pub served : fault ≡ None
-        → ((source_a.has_failed first_after ≡ source_a.has_failed first)
-        × ServesIf source_b.has_failed second second_after)
-        × (grown.sink_has_failed ≡ out.sink_has_failed)
+        → (source_a.has_failed first_after ≡ source_a.has_failed first)
+        × ServesIf source_b.has_failed second second_after
+    -- all writes served if no failed write is reported
+    pub no_failed_write : fault ≢ Some write_failed → grown.sink_has_failed ≡ out.sink_has_failed
     -- how far the inputs were read, whatever happened, and whatever follows
     pub near : (n : ℕ) × ((handed : Handed) (others : Option Handed) (before taken : List ℕ) → MayHold one handed
         → OfBoth MayHold two others → out.put ≡ Some before → out.took ≡ Some taken
@@ -291,13 +297,16 @@ module _ {G A B K : Type 0} (source_g : Source G) (source_a : Source A) (source_
         ((behaviour_on command (chromosomes_of inputs.genome)).settles inputs.second) inputs.first.text
         read.first.bytes before (sink.took out_after) (fault ≡ Some write_failed)
         (IsFaultButWrite fault) (sink.took out_after))
-    -- A run that ends without a fault has met no failure of
-    -- a device that it used. So a failed read or write never ends with status 0.
+    -- A run that ends without a fault has read each input to its end.
+    pub ended : fault ≡ None → IsReadToEnd read.genome × (read.first.told ≡ true) × IsReadToEnd read.second
+    -- None of them failed. So a failed read never ends with status 0.
     pub served : fault ≡ None
-        → (ServesIf source_g.has_failed genome genome_after
-        × ServesIf source_b.has_failed second second_after)
-        × ((source_a.has_failed first_after ≡ source_a.has_failed first)
-        × (sink.has_failed out_after ≡ sink.has_failed out))
+        → ServesIf source_g.has_failed genome genome_after
+        × (source_a.has_failed first_after ≡ source_a.has_failed first)
+        × ServesIf source_b.has_failed second second_after
+    -- All writes and flushes served if no failed write is reported. So a failed write never ends with status 0,
+    -- and no other fault hides one.
+    pub no_failed_write : fault ≢ Some write_failed → sink.has_failed out_after ≡ sink.has_failed out
     -- All reads served if no failed read is reported, and no failed write that may have come after it.
     pub no_failed : fault ≢ Some write_failed → TellsNoRead fault
         → NoneFailed read.genome × (read.first.failed ≡ false) × NoneFailed read.second

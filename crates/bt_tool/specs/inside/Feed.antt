@@ -5,7 +5,7 @@ use Rattle.bt_lines.specs.model.Fault.{FaultValue, read_failed}
 use Rattle.bt_lines.specs.calls.Faults.{no_memory, write_failed}
 use Rattle.bt_lines.specs.model.Lines.{bytes_in, TextLine}
 use Rattle.bt_lines.specs.calls.Output.{block_size, Output, IsPrefixOf, Grows, HoldsBlock, WorksAsBefore, FailsToAdd, Grown, SinkFailed}
-use Rattle.bt_lines.specs.calls.Reader.{CutsOff, Hands, IsKept, source_of, input_of, bytes_taken, fault_kept as line_fault, lines_given, MayStillCome, lines_coming, IsSound, feeds_taken}
+use Rattle.bt_lines.specs.calls.Reader.{CutsOff, Hands, IsKept, source_of, input_of, bytes_taken, end_told, fault_kept as line_fault, lines_given, MayStillCome, lines_coming, IsSound, feeds_taken}
 use Rattle.bt_lines.specs.declared.fault.Input.{Input}
 use Rattle.bt_lines.specs.declared.fault.Kind.{Kind}
 use Rattle.bt_lines.specs.declared.reader.line_reader.LineReader.{LineReader}
@@ -230,6 +230,7 @@ module _ {S A State : Type 0} (settled : List A → List ℕ) (Kinds : Kind → 
     pub puts : PutsLines out (settled (member_items past)) grown
     pub works : WorksAsBefore out grown
     pub served : device.has_failed (source_of new.below) ≡ device.has_failed (source_of old.below)
+    pub told : end_told new.below ≡ true
     pub clear : line_fault new.below ≡ None
     pub within : bytes_taken new.below < 2 ^ 63
 

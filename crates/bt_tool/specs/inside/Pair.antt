@@ -198,9 +198,11 @@ module _ {A B X Y U V : Type 0} (join : JoinDef X Y) (pair : Pair A B X Y U V)
     pub all : written ≡ member_items past
     pub whole : AreAll pair.source_a pair.first first_bytes past first
     pub serves : Serves pair.source_a.has_failed pair.first first
+    pub told : end_told first.below ≡ true
     pub rest : ((fault ≡ None)
         × AreAll pair.source_b pair.second second_bytes past_second second
-        × Serves pair.source_b.has_failed pair.second second × (join.last written past_second ≡ None))
+        × Serves pair.source_b.has_failed pair.second second × (join.last written past_second ≡ None)
+        × (end_told second.below ≡ true))
         ⊎ (((other : FaultValue) × (fault ≡ Some other) × SecondFails ended past_second second other
         × (join.last written past_second ≡ None))
         ⊎ ((other : FaultValue) × (fault ≡ Some other) × LastTold written second other))
@@ -220,7 +222,7 @@ module _ {A B X Y U V : Type 0} (join : JoinDef X Y) (pair : Pair A B X Y U V)
   Why written bytes given ended first second fault grown =
       (InputsEnd written given ended first second fault × PutsLines out bytes grown
       × WorksAsBefore out grown)
-      ⊎ (((fault ≡ Some no_memory) × PutsLines out bytes grown)
+      ⊎ (((fault ≡ Some no_memory) × PutsLines out bytes grown × WorksAsBefore out grown)
       ⊎ ((fault ≡ Some write_failed) × CutsLines out bytes grown))
 
   -- of the second input nothing was read except what these members of the first need

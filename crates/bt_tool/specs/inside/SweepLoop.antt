@@ -165,7 +165,7 @@ module _ {S A State : Type 0} (device : Source S)
       → Type 0
   ChecksRest Kinds (Ok done) new = (more : List (Member A))
       × (passes : PassesMembers device old (past ++ more) new) × AreAll device old passes.bytes.0 (past ++ more) new
-      × IsLater bytes before.below passes.bytes.0 new.below
+      × IsLater bytes before.below passes.bytes.0 new.below × (end_told new.below ≡ true)
   ChecksRest Kinds (Err fault) new = ChecksUpTo Kinds (fault_value fault) new
 
 -- reading on to the end, from wherever the reader is

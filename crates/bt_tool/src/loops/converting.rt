@@ -73,9 +73,5 @@ pub(crate) fn convert<A: Source, K: Sink>(
     let mut lines = LineReader::new(alloc, first, Input::First);
     let mut converter = BamToBed::new(split, cigar);
     let converted = convert_all(&mut lines, &mut converter, out);
-    let first = lines.into_source();
-    match converted {
-        Ok(()) => (None, first),
-        Err(fault) => (Some(fault), first),
-    }
+    (converted.err(), lines.into_source())
 }

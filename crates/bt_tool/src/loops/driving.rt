@@ -92,8 +92,5 @@ pub(crate) fn drive<A: Source, O: ChromOrder, E: Engine + Drop, K: Sink>(
     if let Err(fault) = fed {
         return (Some(fault), first);
     }
-    if let Err(fault) = engine.finish(out) {
-        return (Some(fault), first);
-    }
-    (None, first)
+    (engine.finish(out).err(), first)
 }

@@ -90,7 +90,7 @@ pub(crate) fn mask<A: Source, B: Source, K: Sink>(
         records,
         mask,
     };
-    let fault = run_two(&mut run, out);
+    let masked = run_two(&mut run, out);
     let MaskRun {
         lines,
         records,
@@ -98,5 +98,5 @@ pub(crate) fn mask<A: Source, B: Source, K: Sink>(
     } = run;
     let first = lines.into_source();
     let second = records.into_reader().into_source();
-    (fault, Sources { first, second })
+    (masked.err(), Sources { first, second })
 }

@@ -141,8 +141,8 @@ pub(crate) fn sweep<A: Source, B: Source, O: ChromOrder, K: Sink>(
         result.1.first (Some result.1.second) out.new.output }
 {
     let Sources { first, second } = sources;
-    let firsts = Records::new(alloc, LineReader::new(alloc, first, Input::First), order);
-    let seconds = Records::new(alloc, LineReader::new(alloc, second, Input::Second), order);
+    let first = Records::new(alloc, LineReader::new(alloc, first, Input::First), order);
+    let second = Records::new(alloc, LineReader::new(alloc, second, Input::Second), order);
     let sweep = Sweep::new(
         alloc,
         HeldIndex::new(alloc),
@@ -152,17 +152,17 @@ pub(crate) fn sweep<A: Source, B: Source, O: ChromOrder, K: Sink>(
         order,
     );
     let mut run = SweepRun {
-        first: firsts,
-        second: seconds,
+        first,
+        second,
         sweep,
     };
-    let fault = run_two(&mut run, out);
+    let swept = run_two(&mut run, out);
     let SweepRun {
-        first: firsts,
-        second: seconds,
+        first,
+        second,
         sweep: _sweep,
     } = run;
-    let first = firsts.into_reader().into_source();
-    let second = seconds.into_reader().into_source();
-    (fault, Sources { first, second })
+    let first = first.into_reader().into_source();
+    let second = second.into_reader().into_source();
+    (swept.err(), Sources { first, second })
 }

@@ -1,7 +1,6 @@
 //! The loop over two inputs: an engine is given what it wants of both.
 
-ghost use Rattle.std.specs.Prelude.{◌≡◌, option_map};
-ghost use Rattle.bt_lines.specs.calls.Names.{fault_value};
+ghost use Rattle.std.specs.Prelude.{◌≡◌};
 ghost use Rattle.bt_lines.specs.calls.Output.{Output};
 ghost use Rattle.bt_tool.specs.inside.Rounds.{FillsWanted, EndsRun, Gives, TwoInputDef, Wants};
 ghost use Rattle.bt_bed.specs.calls.SortedReader.{fault_in};
@@ -56,8 +55,11 @@ fn fill_wanted<E: TwoInputEngine, K: Sink>(engine: &mut E, out: &mut Out<K>) -> 
     }
 }
 
-// Gives an engine all that it wants.
-fn give_all<E: TwoInputEngine, K: Sink>(engine: &mut E, out: &mut Out<K>) -> Result<(), Fault>
+// Gives an engine all that it wants, and runs it to its end.
+pub(crate) fn run_two<E: TwoInputEngine, K: Sink>(
+    engine: &mut E,
+    out: &mut Out<K>,
+) -> Result<(), Fault>
     requires { E.definition.comes engine.old out.old.output engine.old out.old.output }
     ensures { E.definition.ends engine.old out.old.output (fault_in result) engine.new out.new.output }
 {
@@ -65,15 +67,4 @@ fn give_all<E: TwoInputEngine, K: Sink>(engine: &mut E, out: &mut Out<K>) -> Res
         engine.give_buffered(out)?;
     }
     engine.finish()
-}
-
-// Runs an engine to its end, and returns the fault that it ends with, if there is one.
-pub(crate) fn run_two<E: TwoInputEngine, K: Sink>(engine: &mut E, out: &mut Out<K>) -> Option<Fault>
-    requires { E.definition.comes engine.old out.old.output engine.old out.old.output }
-    ensures { E.definition.ends engine.old out.old.output (option_map fault_value result) engine.new out.new.output }
-{
-    match give_all(engine, out) {
-        Ok(()) => None,
-        Err(fault) => Some(fault),
-    }
 }

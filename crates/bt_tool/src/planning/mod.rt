@@ -247,15 +247,6 @@ pub fn plan(alloc: Global, words: &[String]) -> Result<Plan, Refusal>
     ensures reported { IfOk result (λ plan. ReportsAnswer (words_seen words.now) (Ok (plan_seen plan))) }
     ensures told { IfErr result (ReportsRefusal (words_seen words.now)) }
 {
-    planned(alloc, words)
-}
-
-// The plan, read from the words.
-fn planned(alloc: Global, words: &[String]) -> Result<Plan, Refusal>
-    ensures asked { IfOk result (λ plan. options (words_seen words.now) ≡ Ok (plan_seen plan)) }
-    ensures refused { IfErr result (IsRefusalOf (words_seen words.now)) }
-    ensures tellable { IfErr result (CanBeTold (length words.now)) }
-{
     let tool = named_tool(words)?;
     let table = tool.table();
     let given = Given::read(&table, words)?;

@@ -2,21 +2,21 @@
 
 pub(crate) mod outcome;
 
-ghost use Rattle.std.specs.Prelude.{IfSome, IsSome, IsTrue, MatchResult, ◌≡◌, ◌≢◌, ◌≤◌, ◌⊎◌, ⊤, true, Some, is_some, option_map};
+ghost use Rattle.std.specs.Prelude.{IfSome, IsNone, IsSome, IsTrue, MatchResult, ◌≡◌, ◌≤◌, ◌⊎◌, ⊤, true, Some, is_some, option_map};
 ghost use Rattle.bt_lines.specs.model.Lines.{max_number};
 ghost use Rattle.bt_lines.specs.calls.Faults.{write_failed};
 ghost use Rattle.bt_lines.specs.calls.Names.{fault_value};
 ghost use Rattle.bt_lines.specs.calls.Output.{HoldsBlock};
-ghost use Rattle.bt_bed.specs.calls.GenomeTable.{entries, names_of};
+ghost use Rattle.bt_bed.specs.calls.GenomeTable.{names_of};
 ghost use Rattle.bt_bed.specs.calls.Orders.{AreDistinct};
 ghost use Rattle.bt_sweep.specs.model.Lines.{subtract_shape};
-ghost use Rattle.bt_tool.specs.model.Behaviour.{behaviour_of, entries_in, of_intersect, of_maskfasta, of_records, order_in_use};
+ghost use Rattle.bt_tool.specs.model.Behaviour.{behaviour_of, of_intersect, of_records, order_in_use};
 ghost use Rattle.bt_tool.specs.calls.Run.{ReadsChromosomes, Runs, RunsAlone, RunsBy};
 ghost use Rattle.bt_tool.specs.calls.Limits.{is_within_limits, IsNamedBy};
 ghost use Rattle.bt_tool.specs.inside.Feed.{Flushes};
 ghost use Rattle.bt_tool.specs.inside.Setup.{chromosomes_in};
 ghost use Rattle.bt_tool.specs.model.Table.{table_of, tool_of};
-ghost use Rattle.bt_tool.specs.model.Written.{complement_written, coverage_written, merge_written};
+ghost use Rattle.bt_tool.specs.model.Written.{merge_written};
 
 use crate::loops::Sources;
 use crate::loops::converting::convert;
@@ -25,10 +25,9 @@ use crate::loops::masking::mask;
 use crate::loops::sweeping::{SweepConfig, sweep};
 use crate::planning::plan_type::{Command, Plan};
 use crate::running::outcome::Outcome;
-use bt_bed::{ByteOrder, Genome, Strand};
+use bt_bed::{ByteOrder, Genome};
 use bt_lines::{Fault, Input, Kind, LineReader, Out, Sink, Source};
 use bt_runs::{Complement, Coverage, Merge, MergeStrand};
-use bt_seq::MaskHow;
 use bt_sweep::Shape;
 use std::alloc::Global;
 
@@ -67,10 +66,17 @@ pub fn run<G: Source, A: Source, B: Source, K: Sink>(
 {
     let mut out = Out::new(out);
     let (chromosomes, genome) = read_genome(alloc, genome);
-    let sources = Sources { first, second };
-    let (fault, sources) = write_output(alloc, plan.command, chromosomes, sources, &mut out);
+    let (fault, first, second) = match chromosomes {
+        Ok(table) => {
+            let setup = Setup {
+                alloc,
+                genome: &table,
+            };
+            write_records(&setup, plan.command, first, second, &mut out)
+        }
+        Err(fault) => (Some(fault), first, second),
+    };
     let fault = flushed(fault, &mut out);
-    let Sources { first, second } = sources;
     Ended {
         outcome: Outcome { fault },
         genome,
@@ -125,96 +131,65 @@ struct Setup<'g> {
     genome: &'g Option<Genome>,
 }
 
-// Writes the output by the chromosomes of the genome file, if there is one. If they couldn't be read the
-// run ends with that fault, and the other inputs aren't touched.
-fn write_output<A: Source, B: Source, K: Sink>(
-    alloc: Global,
-    command: Command,
-    chromosomes: Result<Option<Genome>, Fault>,
-    sources: Sources<A, Option<B>>,
-    out: &mut Out<K>,
-) -> (Option<Fault>, Sources<A, Option<B>>)
-    requires limits { IsTrue (is_within_limits command) }
-    requires genome { MatchResult chromosomes
-        (λ table. IsNamedBy (table_of (tool_of command)) (table_of (tool_of command)).genome table) (λ _. ⊤) }
-    requires second { IsNamedBy (table_of (tool_of command)) (table_of (tool_of command)).second sources.second }
-    requires distinct { MatchResult chromosomes
-        (λ table. IfSome table (λ table. AreDistinct (names_of table))) (λ _. ⊤) }
-    requires block { HoldsBlock out.old.output.took out.old.output.put }
-    ensures written { MatchResult chromosomes
-        (λ table. RunsBy A.Source B.Source (behaviour_of command (option_map entries table))
-        sources.first sources.second out.old.output (option_map fault_value result.0) result.1.first result.1.second out.new.output)
-        (λ fault. (option_map fault_value result.0 ≡ Some (fault_value fault)) × (result.1.first ≡ sources.first)
-        × (result.1.second ≡ sources.second) × (out.new.output ≡ out.old.output)) }
-    ensures second { is_some result.1.second ≡ is_some sources.second }
-{
-    match chromosomes {
-        Ok(table) => {
-            let setup = Setup {
-                alloc,
-                genome: &table,
-            };
-            write_records(&setup, command, sources, out)
-        }
-        Err(fault) => (Some(fault), sources),
-    }
-}
-
 // Writes what the inputs make a command write, by the genome file, if there is one. It gives the sources
 // back, and the fault that the run ends with, if there is one.
 fn write_records<A: Source, B: Source, K: Sink>(
     setup: &Setup<'_>,
     command: Command,
-    sources: Sources<A, Option<B>>,
+    first: A,
+    second: Option<B>,
     out: &mut Out<K>,
-) -> (Option<Fault>, Sources<A, Option<B>>)
+) -> (Option<Fault>, A, Option<B>)
     requires limits { IsTrue (is_within_limits command) }
     requires genome { IsNamedBy (table_of (tool_of command)) (table_of (tool_of command)).genome setup.now.genome.now }
-    requires second { IsNamedBy (table_of (tool_of command)) (table_of (tool_of command)).second sources.second }
+    requires second { IsNamedBy (table_of (tool_of command)) (table_of (tool_of command)).second second }
     requires distinct { IfSome setup.now.genome.now (λ table. AreDistinct (names_of table)) }
     requires block { HoldsBlock out.old.output.took out.old.output.put }
     ensures runs { RunsBy A.Source B.Source (behaviour_of command (chromosomes_in setup.now))
-        sources.first sources.second out.old.output (option_map fault_value result.0) result.1.first result.1.second out.new.output }
-    ensures second { is_some result.1.second ≡ is_some sources.second }
+        first second out.old.output (option_map fault_value result.0) result.1 result.2 out.new.output }
+    ensures second { is_some result.2 ≡ is_some second }
 {
-    let Sources { first, second } = sources;
-    match command {
-        Command::Merge { d: gap, strand } => {
-            let (fault, first) = merge(setup, gap, strand, first, out);
-            (fault, Sources { first, second })
+    match second {
+        Some(second) => {
+            let sources = Sources { first, second };
+            let (fault, Sources { first, second }) = write_both(setup, command, sources, out);
+            (fault, first, Some(second))
         }
-        Command::Complement { limit } => {
-            let (fault, first) = complement(setup, limit, first, out);
-            (fault, Sources { first, second })
+        None => {
+            let (fault, first) = write_alone(setup, command, first, out);
+            (fault, first, None)
         }
-        Command::Coverage { zeros, strand } => {
-            let (fault, first) = cover(setup, zeros, strand, first, out);
-            (fault, Sources { first, second })
+    }
+}
+
+// Writes what a command of one input makes of it.
+fn write_alone<A: Source, K: Sink>(
+    setup: &Setup<'_>,
+    command: Command,
+    first: A,
+    out: &mut Out<K>,
+) -> (Option<Fault>, A)
+    requires limits { IsTrue (is_within_limits command) }
+    requires genome { IsNamedBy (table_of (tool_of command)) (table_of (tool_of command)).genome setup.now.genome.now }
+    requires alone { IsNone (table_of (tool_of command)).second }
+    requires distinct { IfSome setup.now.genome.now (λ table. AreDistinct (names_of table)) }
+    requires block { HoldsBlock out.old.output.took out.old.output.put }
+    ensures { RunsAlone A.Source (behaviour_of command (chromosomes_in setup.now))
+        first out.old.output (option_map fault_value result.0) result.1 out.new.output }
+{
+    match (command, setup.genome) {
+        (Command::Merge { d: gap, strand }, _) => merge(setup, gap, strand, first, out),
+        (Command::Complement { limit }, Some(genome)) => {
+            let engine = Complement::new(genome, limit);
+            drive(setup.alloc, genome, engine, first, out)
         }
-        Command::Intersect { shape, rule, held } => {
-            let config = SweepConfig {
-                shape,
-                rule,
-                limit: held,
-            };
-            sweep_both(setup, config, Sources { first, second }, out)
+        (Command::Coverage { zeros, strand }, Some(genome)) => {
+            let engine = Coverage::new(setup.alloc, genome, zeros, strand);
+            drive(setup.alloc, genome, engine, first, out)
         }
-        Command::Subtract { whole, rule, held } => {
-            let shape = shape_left(whole);
-            let config = SweepConfig {
-                shape,
-                rule,
-                limit: held,
-            };
-            sweep_both(setup, config, Sources { first, second }, out)
-        }
-        Command::BamToBed { split, cigar } => {
-            let (fault, first) = convert(setup.alloc, split, cigar, first, out);
-            (fault, Sources { first, second })
-        }
-        Command::MaskFasta { how, full } => {
-            mask_both(setup.alloc, how, full, Sources { first, second }, out)
-        }
+        (Command::BamToBed { split, cigar }, _) => convert(setup.alloc, split, cigar, first, out),
+        // The other commands have two inputs, and these two a genome file.
+        _ => unreachable!(),
     }
 }
 
@@ -239,47 +214,40 @@ fn merge<A: Source, K: Sink>(
     }
 }
 
-// Writes the gaps between the records of an input.
-fn complement<A: Source, K: Sink>(
+// Writes what a command of two inputs makes of them.
+fn write_both<A: Source, B: Source, K: Sink>(
     setup: &Setup<'_>,
-    limit: bool,
-    first: A,
+    command: Command,
+    sources: Sources<A, B>,
     out: &mut Out<K>,
-) -> (Option<Fault>, A)
-    requires genome { IsSome setup.now.genome.now }
-    requires distinct { IfSome setup.now.genome.now (λ table. AreDistinct (names_of table)) }
+) -> (Option<Fault>, Sources<A, B>)
+    requires both { IsSome (table_of (tool_of command)).second }
     requires block { HoldsBlock out.old.output.took out.old.output.put }
-    ensures { RunsAlone A.Source
-        (of_records (order_in_use (chromosomes_in setup.now)) (complement_written (entries_in (chromosomes_in setup.now)) limit))
-        first out.old.output (option_map fault_value result.0) result.1 out.new.output }
+    ensures { RunsBy A.Source B.Source (behaviour_of command (chromosomes_in setup.now))
+        sources.first (Some sources.second) out.old.output (option_map fault_value result.0)
+        result.1.first (Some result.1.second) out.new.output }
 {
-    let Some(genome) = setup.genome else {
-        unreachable!()
-    };
-    let engine = Complement::new(genome, limit);
-    drive(setup.alloc, genome, engine, first, out)
-}
-
-// Writes the intervals of equal depth of the records of an input.
-fn cover<A: Source, K: Sink>(
-    setup: &Setup<'_>,
-    zeros: bool,
-    strand: Option<Strand>,
-    first: A,
-    out: &mut Out<K>,
-) -> (Option<Fault>, A)
-    requires genome { IsSome setup.now.genome.now }
-    requires distinct { IfSome setup.now.genome.now (λ table. AreDistinct (names_of table)) }
-    requires block { HoldsBlock out.old.output.took out.old.output.put }
-    ensures { RunsAlone A.Source
-        (of_records (order_in_use (chromosomes_in setup.now)) (coverage_written (entries_in (chromosomes_in setup.now)) zeros strand))
-        first out.old.output (option_map fault_value result.0) result.1 out.new.output }
-{
-    let Some(genome) = setup.genome else {
-        unreachable!()
-    };
-    let engine = Coverage::new(setup.alloc, genome, zeros, strand);
-    drive(setup.alloc, genome, engine, first, out)
+    match command {
+        Command::Intersect { shape, rule, held } => {
+            let config = SweepConfig {
+                shape,
+                rule,
+                limit: held,
+            };
+            sweep_both(setup, config, sources, out)
+        }
+        Command::Subtract { whole, rule, held } => {
+            let config = SweepConfig {
+                shape: shape_left(whole),
+                rule,
+                limit: held,
+            };
+            sweep_both(setup, config, sources, out)
+        }
+        Command::MaskFasta { how, full } => mask(setup.alloc, how, full, sources, out),
+        // The other commands have one input.
+        _ => unreachable!(),
+    }
 }
 
 // The shape of what is left of a record: its pieces, or all of it.
@@ -294,46 +262,17 @@ fn shape_left(whole: bool) -> Shape
 fn sweep_both<A: Source, B: Source, K: Sink>(
     setup: &Setup<'_>,
     config: SweepConfig,
-    sources: Sources<A, Option<B>>,
+    sources: Sources<A, B>,
     out: &mut Out<K>,
-) -> (Option<Fault>, Sources<A, Option<B>>)
-    requires second { IsSome sources.second }
-    requires block { HoldsBlock out.old.output.took out.old.output.put }
-    ensures runs { RunsBy A.Source B.Source
+) -> (Option<Fault>, Sources<A, B>)
+    requires { HoldsBlock out.old.output.took out.old.output.put }
+    ensures { RunsBy A.Source B.Source
         (of_intersect (order_in_use (chromosomes_in setup.now)) config.shape config.rule config.limit)
-        sources.first sources.second out.old.output (option_map fault_value result.0) result.1.first result.1.second out.new.output }
-    ensures second { is_some result.1.second ≡ is_some sources.second }
+        sources.first (Some sources.second) out.old.output (option_map fault_value result.0)
+        result.1.first (Some result.1.second) out.new.output }
 {
-    let Sources { first, second } = sources;
-    let Some(second) = second else { unreachable!() };
-    let sources = Sources { first, second };
-    let (fault, sources) = match setup.genome {
+    match setup.genome {
         Some(genome) => sweep(setup.alloc, genome, config, sources, out),
         None => sweep(setup.alloc, &ByteOrder, config, sources, out),
-    };
-    let Sources { first, second } = sources;
-    let second = Some(second);
-    (fault, Sources { first, second })
-}
-
-// Masks the lines of the first input by the records of the second.
-fn mask_both<A: Source, B: Source, K: Sink>(
-    alloc: Global,
-    how: MaskHow,
-    full: bool,
-    sources: Sources<A, Option<B>>,
-    out: &mut Out<K>,
-) -> (Option<Fault>, Sources<A, Option<B>>)
-    requires second { IsSome sources.second }
-    requires block { HoldsBlock out.old.output.took out.old.output.put }
-    ensures runs { RunsBy A.Source B.Source (of_maskfasta how full)
-        sources.first sources.second out.old.output (option_map fault_value result.0) result.1.first result.1.second out.new.output }
-    ensures second { is_some result.1.second ≡ is_some sources.second }
-{
-    let Sources { first, second } = sources;
-    let Some(second) = second else { unreachable!() };
-    let (fault, sources) = mask(alloc, how, full, Sources { first, second }, out);
-    let Sources { first, second } = sources;
-    let second = Some(second);
-    (fault, Sources { first, second })
+    }
 }

@@ -1,5 +1,5 @@
 -- `with` picks the bytes of the new log. Assumes `Logic`.
-use Rattle.std.proofs.Common.{Some, List, [], ◌∷◌, ◌++◌, refl}
+use Rattle.std.proofs.Common.{List, [], ◌∷◌, ◌++◌, refl}
 use seplogic.Ra.Ura.{Ura}
 use mir.Syntax.{Fn}
 use mir.Val.{Val, vptr}

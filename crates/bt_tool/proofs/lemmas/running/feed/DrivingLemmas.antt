@@ -162,6 +162,10 @@ module _ {S A State : Type 0} {written : Written A} {Taken : List A → Type 0} 
     puts_by past (inl taking) other = puts_front out (written.settled (member_items past)) grown taking.puts
     puts_by past (inr writing) other = absurd (other writing.is)
 
+    no_failed_by : (past : List (Member A)) → Cause past → fault ≢ write_failed → grown.sink_has_failed ≡ out.sink_has_failed
+    no_failed_by past (inl taking) other = (taking.works).sink_served
+    no_failed_by past (inr writing) other = absurd (other writing.is)
+
     cut_by : (past : List (Member A)) → Cause past → fault ≡ write_failed → CutsLines out (written.settled (member_items past)) grown
     cut_by past p1 e = grind arith
 
@@ -202,7 +206,9 @@ module _ {S A State : Type 0} {written : Written A} {Taken : List A → Type 0} 
             let part = puts_by device driven kinds Sorted out hands fault grown fed.past fed.cause (λ is. other (ap Some is)) in
             (part.front, part.rest ++ more.0, more.1 ∙ ap (λ l. l ++ more.0) part.parts ∙ append_assoc part.front part.rest more.0, part.puts before put);
         grows = fed.took.grows;
+        ended = λ e. cc;
         served = λ e. cc;
+        no_failed_write = λ other. no_failed_by device driven kinds Sorted out hands fault grown fed.past fed.cause (λ is. other (ap Some is));
         near = (
           suc fed.took.read.to.count,
           λ one two before taken holds others put known. near_by device driven kinds Sorted out hands holds put known fed.took.read fed.took.kept
@@ -254,7 +260,9 @@ module _ {S A State : Type 0} {written : Written A} {Taken : List A → Type 0} 
           kept = λ other one two before holds others put.
               (written.whole (member_items fed.past), [], ap (λ r. r.output) (report_whole one holds) ∙ sym (append-nil (written.whole (member_items fed.past))), put_all before put);
           grows = grows_both out.took grown.took finished.took fed.took.grows goes.took;
-          served = λ e. ((ap device.has_failed (sym driven.ended) ∙ fed.served ∙ ap device.has_failed driven.starts.source, tt), works ∙ fed.works.sink_served);
+          ended = λ e. (fed.told, tt);
+          served = λ e. (ap device.has_failed (sym driven.ended) ∙ fed.served ∙ ap device.has_failed driven.starts.source, tt);
+          no_failed_write = λ other. works ∙ fed.works.sink_served;
           near = (suc fed.took.read.to.count, near_end None (λ stops. stops.0 refl));
           named = λ told e. cc;
           no_failed = λ never. (not_failed device old driven.starts new driven.ended all_hands (none_tells (fault_kept new.below) fed.clear), tt);
@@ -277,7 +285,9 @@ module _ {S A State : Type 0} {written : Written A} {Taken : List A → Type 0} 
       );
       kept = λ other. absurd (other (ap Some is));
       grows = grows_both out.took grown.took finished.took fed.took.grows goes.took;
+      ended = λ e. cc;
       served = λ e. cc;
+      no_failed_write = λ other. absurd (other (ap Some is));
       near = (suc fed.took.read.to.count, near_end (Some fault) (λ stops. stops.1 (ap Some is)));
       named = λ told e. inr (inl (sym (some_is fault told e) ∙ is, sink.0, sink.1));
       no_failed = λ never. (not_failed device old driven.starts new driven.ended all_hands (none_tells (fault_kept new.below) fed.clear), tt);
@@ -495,7 +505,7 @@ module _ {order : Order} (total : IsTotal order) where
       alone_writes device device (of_records order (merge_written order d strand))
       (λ one two. ap (λ m. members_report (merge_as_they_come m) (bed_format (sorting_of order)) one) begun ∙ (grind (arith, report_same, placed_good)))
       (λ two lines. ap (λ m. members_settle (merge_as_they_come m) (bed_format (sorting_of order)) lines) begun ∙ (grind (arith, settled_same, placed_lines)))
-      (λ lines. refl) None (λ t read tells. tells) runs
+      (λ lines. refl) (λ t read tells. tells) runs
 
 module _ (entries : List Entry) (zeros : Bool) (strand : Option Strand) where
   -- a coverage that has taken no record has settled nothing

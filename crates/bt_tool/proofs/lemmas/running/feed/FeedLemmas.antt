@@ -122,6 +122,7 @@ module _ {S A State : Type 0} {settled : List A → List ℕ} {device : Source S
       puts = g.put.puts;
       works = g.put.works;
       served = over.ends.served ∙ g.passes.served;
+      told = over.ends.told;
       clear = over.ends.below_goes;
       within = (over.kept g.passes.kept).within over.ends.below_goes;
     }

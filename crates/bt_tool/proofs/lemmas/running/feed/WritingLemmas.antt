@@ -1,19 +1,18 @@
 -- What a command of one input writes, as what any command writes of its inputs.
-use Rattle.bt_lines.proofs.Std.{[], ◌≡◌, ℕ, ◌+◌, ◌-◌, ◌≤◌, refl, true, List, ◌++◌, length, Option, None, Some, take, sym, ap, ◌∙◌, subst, arith, inl, inr, ◌⊎◌, IfSome, suc, ◌^◌, ◌<◌, false, drop, All, take-append-add, append_assoc, drop-drop, false≢true}
+use Rattle.bt_lines.proofs.Std.{[], ◌≡◌, ℕ, ◌+◌, ◌-◌, ◌≤◌, refl, true, List, ◌++◌, length, Option, None, Some, take, sym, ap, ◌∙◌, subst, arith, inl, inr, ◌⊎◌, IfSome, suc, ◌^◌, ◌<◌, false, drop, All, take-append-add, append_assoc, drop-drop}
 use Rattle.bt_lines.specs.declared.device.Source.{Ghosts as Source}
 use Rattle.bt_lines.specs.model.Fault.{FaultValue}
 use Rattle.bt_lines.specs.model.Lines.{Handed, TextLine, text_lines, bytes_in}
 use Rattle.bt_lines.specs.calls.Line.{line_feeds}
 use Rattle.bt_lines.specs.calls.Output.{Output, block_size}
 use Rattle.bt_lines.specs.declared.fault.Input.TheVariants.{First, Second}
-use Rattle.bt_bed.specs.model.Genome.{Entry}
-use Rattle.bt_tool.specs.model.Behaviour.{Behaviour, behaviour_of}
+use Rattle.bt_tool.specs.model.Behaviour.{Behaviour}
 use Rattle.bt_tool.specs.calls.Inputs.{CameOf, HandsUpTo, InputRead, MayHold, OfBoth, ReadsSo, ReadsSoIf}
 use Rattle.bt_lines.specs.calls.Device.{begun}
 use Rattle.bt_tool.proofs.lemmas.running.members.CursorLemmas.{IsWhole}
 use Rattle.bt_bed.specs.model.Meeting.{Report}
 use Rattle.bt_tool.specs.calls.Run.{NoneFailed, IsFaultButWrite, IsOfInput, IsPutTo, IsReported, IsWithin, ReadsNoFurther, TellsInput, TellsInputIf, RunsBy}
-use Rattle.bt_tool.specs.declared.planning.plan_type.Command.{Command}
+use Rattle.bt_lines.specs.declared.fault.Kind.{Kind}
 use Rattle.bt_lines.specs.calls.Reader.{CutsOff, Hands, bytes_taken, end_told}
 use Rattle.bt_lines.specs.declared.reader.line_reader.LineReader.{LineReader}
 use Rattle.bt_lines.proofs.lemmas.reader.lines.TextLemmas.{line_feeds-append}
@@ -74,10 +73,10 @@ none_up_to most None = tt
 none_up_to most (Some source) = omega arith
 
 module _ {A B : Type 0} (source_a : Source A) (source_b : Source B) where
-  -- what a command of one input writes, a second that isn't touched beside it, by a behaviour that says the same
+  -- what a command of one input writes, by a behaviour that says the same
   module _ {mine : Behaviour} (yours : Behaviour) (same : (one : Handed) (two : Option Handed) → mine.report one None ≡ yours.report one two) (same_settle : (two : Option Handed) (lines : List TextLine) → mine.settles None lines ≡ yours.settles two lines)
       (same_faults : (lines : List TextLine) → mine.faults lines ≡ yours.faults lines)
-      {first : A} (second : Option B) {out : Output} {fault : Option FaultValue} {first_after : A} {grown : Output}
+      {first : A} {out : Output} {fault : Option FaultValue} {first_after : A} {grown : Output}
       (same_kinds : (t : FaultValue) (read : InputRead) → TellsInput source_a mine.FirstKinds First read first_after t → TellsInput source_a yours.FirstKinds First read first_after t) (w : RunsBy source_a source_a mine first None out fault first_after None grown) where
     alone : w.two ≡ None
     alone = none_two source_a w.two w.two_reads
@@ -85,12 +84,12 @@ module _ {A B : Type 0} (source_a : Source A) (source_b : Source B) where
     none_with : (P : Option InputRead → Option Handed → Type 0) → P None None → P w.two None
     none_with P so = subst (λ two. P two None) (sym alone) so
 
-    pub alone_writes : RunsBy source_a source_b yours first second out fault first_after second grown
+    pub alone_writes : RunsBy source_a source_b yours first None out fault first_after None grown
     alone_writes = record {
       one = w.one;
       one_reads = w.one_reads;
-      two = none_read second;
-      two_reads = reads_none source_b second;
+      two = None;
+      two_reads = tt;
       whole = λ one two before reads others put write memory. subst (λ r. IsReported r before fault grown) (same one two) (w.whole one None before reads (none_with (OfBoth CameOf) tt) put write memory);
       told = λ one two before holds others put is. subst (λ r. IsReported r before fault grown) (same one two) (w.told one None before holds (none_with (OfBoth MayHold) tt) put is);
       cut = λ is one two before holds others put.
@@ -100,34 +99,54 @@ module _ {A B : Type 0} (source_a : Source A) (source_b : Source B) where
           let k = w.kept other one None before holds (none_with (OfBoth MayHold) tt) put in
           (k.0, k.1, ap (λ (r : Report). r.output) (sym (same one two)) ∙ k.2, k.3);
       grows = w.grows;
-      served = λ none.
-          let s = w.served none in
-          ((s.0.0, grind arith), s.1);
+      ended = λ none. ((w.ended none).0, tt);
+      served = λ none. ((w.served none).0, tt);
+      no_failed_write = w.no_failed_write;
       near = (
         w.near.0,
         λ one two before taken holds others put known.
-            near_as _ (IsWithin w.one.told one.text w.near.0 → HandsUpTo (yours.reaches two (take w.near.0 (text_lines one.text)) + block_size) (none_read second))
-            (λ beside end. none_up_to (yours.reaches two (take w.near.0 (text_lines one.text)) + block_size) second) same_faults (same_settle two) (grown.has_failed ≡ true) (grown.has_failed ≡ true) (IsFaultButWrite fault) (IsFaultButWrite fault)
+            near_as _ (IsWithin w.one.told one.text w.near.0 → HandsUpTo (yours.reaches two (take w.near.0 (text_lines one.text)) + block_size) None)
+            (λ beside end. tt) same_faults (same_settle two) (grown.has_failed ≡ true) (grown.has_failed ≡ true) (IsFaultButWrite fault) (IsFaultButWrite fault)
             (λ size took. took) (λ size kept. kept) (λ bytes is stops. is stops) (w.near.1 one None before taken holds (none_with (OfBoth MayHold) tt) put known),
       );
       named = λ t e. elim (w.named t e) [
         | inl tells ↦ elim tells [ inl tells ↦ inl (inl (same_kinds t w.one tells)) | inr none ↦ absurd (subst (λ two. TellsInputIf source_a mine.SecondKinds Second two None t) alone none) ]
         | inr tells ↦ inr tells
       ];
-      no_failed = λ never. ((w.no_failed never).0, none_failed second);
+      no_failed = λ never. ((w.no_failed never).0, tt);
     }
 
-  -- what a command does that doesn't look at a second input
-  pub behaves_alone : {command : Command} (chromosomes : Option (List Entry))
-      → ((one : Handed) (two : Option Handed) → (behaviour_of command chromosomes).report one None ≡ (behaviour_of command chromosomes).report one two)
-      → ((two : Option Handed) (lines : List TextLine) → (behaviour_of command chromosomes).settles None lines ≡ (behaviour_of command chromosomes).settles two lines)
-      → {is : Command} → is ≡ command → {first : A} {second : Option B} {out : Output} {fault : Option FaultValue} {first_after : A} {grown : Output}
-      → RunsBy source_a source_a (behaviour_of command chromosomes) first None out fault first_after None grown
-      → RunsBy source_a source_b (behaviour_of is chromosomes) first second out fault first_after second grown
-  behaves_alone {command} chromosomes same same_settle e {first} {second} {out} {fault} {first_after} {grown} w =
-      let behaviour = behaviour_of command chromosomes in
-      subst (λ (command : Command). RunsBy source_a source_b (behaviour_of command chromosomes) first second out fault first_after second grown) (sym e)
-      (alone_writes behaviour same same_settle (λ lines. refl) second (λ t read tells. tells) w)
+  reads_alone : (two : Option InputRead) → ReadsSoIf source_a None two None → ReadsSoIf source_b None two None
+  reads_alone None reads = tt
+  reads_alone (Some read) reads = absurd reads
+
+  tells_alone : (Kinds : Kind → Type 0) (two : Option InputRead) (t : FaultValue) → TellsInputIf source_a Kinds Second two None t → TellsInputIf source_b Kinds Second two None t
+  tells_alone Kinds None t tells = absurd tells
+  tells_alone Kinds (Some read) t tells = absurd tells
+
+  -- what a command of one input does, if no second one is there
+  pub behaves_alone : {behaviour : Behaviour} {first : A} {out : Output} {fault : Option FaultValue} {first_after : A} {grown : Output}
+      → RunsBy source_a source_a behaviour first None out fault first_after None grown → RunsBy source_a source_b behaviour first None out fault first_after None grown
+  behaves_alone {behaviour} w = record {
+    one = w.one;
+    one_reads = w.one_reads;
+    two = w.two;
+    two_reads = reads_alone w.two w.two_reads;
+    whole = w.whole;
+    told = w.told;
+    cut = w.cut;
+    kept = w.kept;
+    grows = w.grows;
+    ended = w.ended;
+    served = λ none. ((w.served none).0, tt);
+    no_failed_write = w.no_failed_write;
+    near = w.near;
+    named = λ t e. elim (w.named t e) [
+      | inl tells ↦ elim tells [ inl tells ↦ inl (inl tells) | inr tells ↦ inl (inr (tells_alone behaviour.SecondKinds w.two t tells)) ]
+      | inr tells ↦ inr tells
+    ];
+    no_failed = w.no_failed;
+  }
 
 -- Lemmas that tell faults apart.
 

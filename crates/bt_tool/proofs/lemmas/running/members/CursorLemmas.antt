@@ -1,5 +1,5 @@
 -- Lemmas on lines that were consumed of those buffered: the lines that are left tell how many bytes they had.
-use Rattle.bt_lines.proofs.Std.{common_steps, ◌≡◌, ℕ, zero, suc, ◌+◌, ◌-◌, ◌≤◌, Bool, true, false, nat_eq, List, [], ◌∷◌, ◌++◌, length, take, drop, refl, sym, ap, ◌∙◌, subst, append_assoc, append-nil, length-append, length-take, length-drop, arith, inl, inr, ◌⊎◌, All, flat_map, drop-append_seam, take-append_seam, take-length, take-append-drop, All-cons, All-head, All-nil, All-tail, ◌≢◌, Option, Some, ◌^◌, None, ◌<◌, nat_le, false≢true, IfSome, nil_from_length}
+use Rattle.bt_lines.proofs.Std.{common_steps, ◌≡◌, ℕ, zero, suc, ◌+◌, ◌-◌, ◌≤◌, Bool, true, false, nat_eq, List, [], ◌∷◌, ◌++◌, length, take, drop, refl, sym, ap, ◌∙◌, subst, append_assoc, append-nil, length-append, length-take, length-drop, arith, inl, inr, ◌⊎◌, All, flat_map, drop-append_seam, take-append_seam, take-length, take-append-drop, All-cons, All-head, All-nil, All-tail, ◌≢◌, Option, Some, ◌^◌, None, ◌<◌, nat_le, false≢true}
 use Rattle.bt_lines.proofs.lemmas.reader.block.BufferLemmas.{fed_clear, fed_drop, fed_last, fed_none, fed_push}
 use Rattle.bt_lines.proofs.lemmas.reader.lines.TextLemmas.{lines_from-fed, lines_from-last, lines_from-nil, spelled-fed, by_lines, lines_are_numbered, whole_lines_are_numbered, bytes_in-lines, line_feeds-append, line_feeds-fed, whole_count, whole_lines_from-fed, whole_lines_from-last, bytes_in-append, whole_front}
 use Rattle.bt_lines.proofs.lemmas.reader.lines.BufferedLemmas.{lines_taken}

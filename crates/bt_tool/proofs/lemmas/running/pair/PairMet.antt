@@ -1,6 +1,10 @@
 -- What all members of two inputs give.
-use Rattle.bt_lines.proofs.Std.{ℕ, ◌||◌, List, is_none, ◌≡◌, suc, ◌+◌, ◌≤◌, ◌<◌, Bool, true, false, [], ◌∷◌, ◌++◌, Option, None, Some, refl, sym, ap, ◌∙◌, subst, append_assoc, append-nil, arith, flat_map, inl, inr, ◌⊎◌, ◌≢◌, All, IsSome, length, option_to_list, take, list_all, false≢true, or_from, map-append, All-head, All-tail}
+use Rattle.bt_lines.proofs.Std.{ℕ, ◌||◌, List, is_none, ◌≡◌, suc, ◌+◌, ◌≤◌, ◌<◌, Bool, true, false, [], ◌∷◌, ◌++◌, Option, None, Some, refl, sym, ap, ◌∙◌, subst, append_assoc, append-nil, arith, flat_map, inl, inr, ◌⊎◌, ◌≢◌, All, IsSome, length, option_to_list, take, list_all, false≢true, or_from, map-append, All-head, All-tail, Result, Ok, Err, option_map}
+use Rattle.std.specs.Result.{result_err}
 use Rattle.bt_lines.specs.model.Fault.{FaultValue}
+use Rattle.bt_lines.specs.declared.fault.Fault.{Fault}
+use Rattle.bt_lines.specs.calls.Names.{fault_value}
+use Rattle.bt_bed.specs.calls.SortedReader.{fault_in}
 use Rattle.bt_lines.specs.calls.Faults.{no_memory, write_failed}
 use Rattle.bt_bed.specs.model.Good.{Good, items_in, or_else, Format, Member, good, good_handed}
 use Rattle.bt_bed.specs.model.Meeting.{Report, Rule, join_report, written}
@@ -8,7 +12,7 @@ use Rattle.bt_tool.specs.inside.Pair.{JoinDef, MayCome, Pair, Serves, PairEnds, 
 use Rattle.bt_lines.proofs.lemmas.reader.block.ReadsLemmas.{some_is}
 use Rattle.bt_lines.specs.model.Lines.{Handed, TextLine, text_lines}
 use Rattle.bt_lines.specs.calls.Output.{Output, block_size}
-use Rattle.bt_lines.specs.calls.Reader.{MayStillCome, fault_kept as line_fault, input_of, lines_given, source_of}
+use Rattle.bt_lines.specs.calls.Reader.{MayStillCome, end_told, fault_kept as line_fault, input_of, lines_given, source_of}
 use Rattle.bt_lines.specs.declared.fault.Input.TheVariants.{First, Second}
 use Rattle.bt_bed.specs.calls.Reading.{IsBeyond, MemberReader, coming}
 use Rattle.bt_bed.proofs.lemmas.Definitions.{all_stop, met_fault_stop, met_output, written_past, written_stop}
@@ -385,6 +389,31 @@ module _ {A B X Y U V : Type 0} {join : JoinDef X Y} {pair : Pair A B X Y U V} {
   named_by told e (inr (inl ran)) = inr (inr (some_is told no_memory (sym e ∙ ran.0)))
   named_by told e (inr (inr cut)) = inr (inl (some_is told write_failed (sym e ∙ cut.0), cut.1.sink_failed.0, cut.1.sink_failed.1))
 
+  -- without a fault both inputs have ended
+  ends_in : fault ≡ None → InputsEnd join pair out w.first_bytes.0 w.second_bytes.0 w.written w.wrote.given w.wrote.ended first second fault → (end_told first.below ≡ true) × (end_told second.below ≡ true)
+  ends_in none (inl stops) = absurd (let apart : None ≡ Some stops.0 = sym none ∙ stops.1 in cc)
+  ends_in none (inr (inl stops)) = absurd (let apart : None ≡ Some stops.0 = sym none ∙ stops.1 in cc)
+  ends_in none (inr (inr (inr stops))) = absurd (let apart : None ≡ Some stops.0 = sym none ∙ stops.1 in cc)
+  ends_in none (inr (inr (inl stops))) =
+      elim stops.rest [
+        | inl end ↦ (stops.told, end.4)
+        | inr others ↦ elim others [
+          | inl other ↦ absurd (let apart : None ≡ Some other.0 = sym none ∙ other.1 in cc)
+          | inr other ↦ absurd (let apart : None ≡ Some other.0 = sym none ∙ other.1 in cc)
+        ]
+      ]
+
+  ended_by : fault ≡ None → Because → (end_told first.below ≡ true) × (end_told second.below ≡ true)
+  ended_by none (inl (end, puts, works)) = ends_in none end
+  ended_by none (inr (inl ran)) = absurd (let apart : None ≡ Some no_memory = sym none ∙ ran.0 in cc)
+  ended_by none (inr (inr cut)) = absurd (let apart : None ≡ Some write_failed = sym none ∙ cut.0 in cc)
+
+  -- unless a failed write is reported, no write failed
+  no_failed_by : fault ≢ Some write_failed → Because → grown.sink_has_failed ≡ out.sink_has_failed
+  no_failed_by other (inl (end, puts, works)) = works.sink_served
+  no_failed_by other (inr (inl ran)) = (ran.2).sink_served
+  no_failed_by other (inr (inr cut)) = absurd (other cut.0)
+
   whole_by : (one two : Handed) (before : List ℕ) → CameOne fault one → CameTwo fault two → out.put ≡ Some before
       → fault ≢ Some write_failed → fault ≢ Some no_memory → Because → IsReported (met_by join (good_one one) (good_two two)) before fault grown
   whole_by one two before came came_second put write memory (inl (end, puts, works)) = reported one two came came_second before put end puts
@@ -433,7 +462,9 @@ module _ {A B X Y U V : Type 0} {join : JoinDef X Y} {pair : Pair A B X Y U V} {
           let part = kept_by other w.why in
           (part.front, part.rest ++ more.0, more.1 ∙ ap (λ l. l ++ more.0) part.parts ∙ append_assoc part.front part.rest more.0, part.puts before put);
       grows = w.wrote.grows;
+      ended = λ none. ended_by none w.why;
       served = λ e. grind arith;
+      no_failed_write = λ other. no_failed_by other w.why;
       near = (near.0, λ one two before taken holds others put took. near.1 one (or_empty two) before taken holds (both_if MayHold two_read two others) put took);
       named = λ told e. named_by told e w.why;
       no_failed = λ never. (
@@ -441,3 +472,8 @@ module _ {A B X Y U V : Type 0} {join : JoinDef X Y} {pair : Pair A B X Y U V} {
         not_failed pair.source_b pair.second begins_second second ended_second w.second_bytes.1 (none never).1,
       );
     }
+
+-- the fault of a result that is handed on as an option
+pub err_told : {T : Type 0} (result : Result T Fault) → option_map fault_value (result_err result) ≡ fault_in result
+err_told (Ok done) = refl
+err_told (Err fault) = refl

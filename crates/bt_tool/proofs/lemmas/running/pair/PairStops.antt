@@ -275,7 +275,7 @@ module _ {A B X Y U V : Type 0} {join : JoinDef X Y} {pair : Pair A B X Y U V} {
       stops_why =
           elim stops.cause [
             | inl fails ↦ inl (inl (fault, refl, record { past = past_first ++ more_first; all = all_written_now; all_given = all_written_now; cause = fails; serves = serves_now }), put_now.puts, put_now.works)
-            | inr ran ↦ inr (inl (ap Some ran.is, put_now.puts))
+            | inr ran ↦ inr (inl (ap Some ran.is, put_now.puts, put_now.works))
           ]
 
       pub first_fails : Ends (Some fault) first_now second_now now
@@ -319,7 +319,7 @@ module _ {A B X Y U V : Type 0} {join : JoinDef X Y} {pair : Pair A B X Y U V} {
 
     -- memory ran out
     pub lacks_memory : (fault : FaultValue) → fault ≡ no_memory → Ends (Some fault) first second grown
-    lacks_memory fault is = ends_here (Some fault) (inr (inl (ap Some is, s.put.puts)))
+    lacks_memory fault is = ends_here (Some fault) (inr (inl (ap Some is, s.put.puts, s.put.works)))
 
     -- more members of both were taken, and some lines that are settled then weren't all written
     pub fails_to_write : (more_first : List (Member X)) (more_second : List (Member Y)) {first_now : MemberReader A X U} {second_now : MemberReader B Y V}
@@ -441,7 +441,7 @@ module _ {A B X Y U V : Type 0} {join : JoinDef X Y} {pair : Pair A B X Y U V} {
         second_stops : HasFaultBehind pair.source_b pair.second join.second_kinds stop_bytes past_second fault second_now ⊎ LacksMemory pair.source_b pair.second fault second_now
             → Why join pair out s.first_passes.bytes.0 stop_bytes stage.written s.bytes (given stage) stage.second_ended first second_now (Some fault) grown
         second_stops (inl fails) = second_why (record { cause = fails; before_end = λ e. absurd (false≢true (sym goes ∙ e)) })
-        second_stops (inr ran) = inr (inl (ap Some ran.is, s.put.puts))
+        second_stops (inr ran) = inr (inl (ap Some ran.is, s.put.puts, s.put.works))
 
         pub stops_second : Ends (Some fault) first second_now grown
         stops_second =
@@ -487,7 +487,7 @@ module _ {A B X Y U V : Type 0} {join : JoinDef X Y} {pair : Pair A B X Y U V} {
       module _ (second_now : MemberReader B Y V) (handed : HandsOver pair.source_b pair.second second_now) (on : ReadsLater handed.0 second_now) where
         -- the second was read on
         pub ends_rest : (past : List (Member Y)) (fault : Option FaultValue)
-            → ((fault ≡ None) × AreAll pair.source_b pair.second handed.0 past second_now × Serves pair.source_b.has_failed pair.second second_now × (join.last stage.written past ≡ None))
+            → ((fault ≡ None) × AreAll pair.source_b pair.second handed.0 past second_now × Serves pair.source_b.has_failed pair.second second_now × (join.last stage.written past ≡ None) × (end_told second_now.below ≡ true))
             ⊎ (((other : FaultValue) × (fault ≡ Some other) × SecondFails join pair out s.first_passes.bytes.0 handed.0 stage.second_ended past second_now other × (join.last stage.written past ≡ None))
             ⊎ ((other : FaultValue) × (fault ≡ Some other) × LastTold join pair out s.first_passes.bytes.0 handed.0 stage.written second_now other))
             → Ends fault first second_now grown
@@ -500,6 +500,7 @@ module _ {A B X Y U V : Type 0} {join : JoinDef X Y} {pair : Pair A B X Y U V} {
                 all = all_written s whole.1;
                 whole = whole.0;
                 serves = first_serves;
+                told = whole.3;
                 rest = rest;
               }))),
               s.put.puts,
@@ -507,11 +508,11 @@ module _ {A B X Y U V : Type 0} {join : JoinDef X Y} {pair : Pair A B X Y U V} {
             ))
 
         runs_out : (fault : FaultValue) → fault ≡ no_memory → Ends (Some fault) first second_now grown
-        runs_out fault is = ends_so (Some fault) second_now handed on (inl done) (inr (inl (ap Some is, s.put.puts)))
+        runs_out fault is = ends_so (Some fault) second_now handed on (inl done) (inr (inl (ap Some is, s.put.puts, s.put.works)))
 
       -- both inputs have ended
       pub ends_all : stage.second_ended ≡ true → join.last stage.written past_second ≡ None → Ends None first second grown
-      ends_all done_second none = ends_rest second s.second_passes.bytes no_later past_second None (inl (refl, (s.second_all done_second).0, second_serves, none))
+      ends_all done_second none = ends_rest second s.second_passes.bytes no_later past_second None (inl (let all = s.second_all done_second in (refl, all.0, second_serves, none, all.2)))
 
       -- the rest of the second input stopped
       pub stops_rest : (second_now : MemberReader B Y V) (past : List (Member Y)) (fault : FaultValue)

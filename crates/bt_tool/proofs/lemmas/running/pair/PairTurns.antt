@@ -499,11 +499,11 @@ module _ {S A State : Type 0} (device : Source S) (before : MemberReader S A Sta
 
     pub reads_end : (new : MemberReader S A State) → IsOver device now new → (old : MemberReader S A State) (past : List (Member A))
         → (p : PassesMembers device old past before) → (more : List (Member A)) × (passes : PassesMembers device old (past ++ more) new) × AreAll device old passes.bytes.0 (past ++ more) new
-        × IsLater p.bytes.0 before.below passes.bytes.0 new.below
+        × IsLater p.bytes.0 before.below passes.bytes.0 new.below × (end_told new.below ≡ true)
     reads_end new over old past p =
         let was = on.passes old past p in
         let ends = end_on new over old p.bytes.0 (past ++ was.0) was.1 in
-        (was.0, ends.0, ends.1, ends.2)
+        (was.0, ends.0, ends.1, ends.2, over.ends.told)
 
     -- the member that was ahead at first was consumed
     low_ahead : (new : MemberReader S A State) → lines_given now.below ≤ lines_given new.below → now.buffered ≡ [] → (o : Option (Member A)) → ahead_in before ≡ o → (past : List (Member A)) → All (λ m. m.line ≤ lines_given new.below) past

@@ -539,7 +539,7 @@ module _ {A B O : Type 0} {g : Ghosts O} {source_a : Source A} {source_b : Sourc
     finishes_both {T} (Ok unit) second_now reads =
         let checks = subst (λ (o : Order). ReadsRest {T = T} source_b (IsBedKind o) (view_of second) (Ok unit) (view_of second_now)) (s.second_order ∙ c.begun.same_order) reads (view_of old_second) s.past_second s.comes.second_passes wrong_bed in
         stop.ends_rest s.comes asks_here s.fits done (view_of second_now) checks.1.bytes (record { later = checks.3; low = λ some. absurd (false≢true (ap is_some (sym checks.1.going) ∙ some)) }) (s.past_second ++ checks.0) None
-        (inl (refl, checks.2, record { served = checks.1.served; clear = checks.1.clear; within = checks.1.kept.within checks.1.clear }, refl))
+        (inl (refl, checks.2, record { served = checks.1.served; clear = checks.1.clear; within = checks.1.kept.within checks.1.clear }, refl, checks.4))
     finishes_both {T} (Err fault) second_now reads =
         let checks = subst (λ (o : Order). ReadsRest {T = T} source_b (IsBedKind o) (view_of second) (Err fault) (view_of second_now)) (s.second_order ∙ c.begun.same_order) reads (view_of old_second) s.past_second s.comes.second_passes wrong_bed in
         stop.stops_rest s.comes asks_here s.fits done (view_of second_now) (s.past_second ++ checks.more) (fault_value fault)

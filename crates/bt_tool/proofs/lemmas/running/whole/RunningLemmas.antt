@@ -88,9 +88,15 @@ module _ (out mid new : Output) (fault answer : Option FaultValue) where
       → new.took ≡ Some bytes
   exact_by bytes is stops p1 = grind arith
 
-  -- without a fault the sink has served in the flush too
-  pub served_by : (FlushesAll mid fault answer new ⊎ FlushFails mid fault answer new) ⊎ StaysFailed mid fault answer new → answer ≡ None → (fault ≡ None) × (new.sink_has_failed ≡ mid.sink_has_failed)
-  served_by p1 none = grind arith
+  -- unless a failed write is reported, the fault is the one from before, and the sink has served in the flush too
+  pub served_by : (FlushesAll mid fault answer new ⊎ FlushFails mid fault answer new) ⊎ StaysFailed mid fault answer new → answer ≢ Some write_failed → (fault ≡ answer) × (new.sink_has_failed ≡ mid.sink_has_failed)
+  served_by (inl (inl all)) other = (sym all.same_fault, all.sink_served)
+  served_by (inl (inr fails)) other = absurd (other fails.is)
+  served_by (inr stays) other = absurd (other stays.is)
+
+  -- without a fault there was none before
+  pub none_before : (FlushesAll mid fault answer new ⊎ FlushFails mid fault answer new) ⊎ StaysFailed mid fault answer new → answer ≡ None → fault ≡ None
+  none_before ends none = (served_by ends (λ is. (let apart : None ≡ Some write_failed = sym none ∙ is in cc))).0 ∙ none
 
   -- the fault that is reported is the one before the flush, or a failed write
   pub named_by : {P : FaultValue → Type 0} → ((t : FaultValue) → fault ≡ Some t → P t ⊎ TellsDevice mid.sink_has_failed mid.sink_last_failed t)
@@ -211,10 +217,11 @@ module _ {G A B K : Type 0} (source_g : Source G) (source_a : Source A) (source_
             (answer ≡ Some write_failed) (IsFaultButWrite fault) (IsFaultButWrite answer) (λ size. took_more_than begun.took mid.took new.took before size (writes_over.took ∙ known) writes.grows flushes.grows) (λ size kept. kept_by begun mid new fault answer size kept flushes.ends)
             (λ bytes is stops. exact_by begun mid new fault answer bytes is stops flushes.ends) near),
       );
-      served = λ none.
-          let was = served_by begun mid new fault answer flushes.ends none in
-          let devices = writes.served was.0 in
-          ((knows.served, devices.0.1), (devices.0.0, writes_over.failed_after ∙ was.1 ∙ devices.1 ∙ writes_over.served));
+      ended = λ none. (let ends = writes.ended (none_before begun mid new fault answer flushes.ends none) in (knows.ended, ends.0, ends.1));
+      served = λ none. (let serves = writes.served (none_before begun mid new fault answer flushes.ends none) in (knows.served, serves.0, serves.1));
+      no_failed_write = λ other.
+          let was = served_by begun mid new fault answer flushes.ends other in
+          writes_over.failed_after ∙ was.1 ∙ writes.no_failed_write (λ is. other (sym was.0 ∙ is)) ∙ writes_over.served;
       no_failed = λ no_write never. (let none = flushed_no_read mid new fault answer flushes no_write never in (knows.no_failed, (writes.no_failed none).0, (writes.no_failed none).1));
       after_genome = λ file holds wrong e. absurd (other_chromosomes (chromosomes_of file) chromosomes wrong (knows.told file holds) e);
       untouched = λ t e place at is.
@@ -243,6 +250,9 @@ module _ {G A B K : Type 0} (source_g : Source G) (source_a : Source A) (source_
 
     no_write : fault ≡ Some write_failed → ⊥
     no_write e = lacks.no_write (some_is wrong write_failed (sym stops.0 ∙ e))
+
+    no_end : answer ≡ None → ⊥
+    no_end none = let apart : None ≡ Some wrong = sym (none_before begun mid new fault answer flushes.ends none) ∙ stops.0 in cc
 
     genome_named : (t : FaultValue) → TellsInputIf source_g (IsOneOf is_genome_kind) FromGenome genome_read genome_after wrong ⊎ (wrong ≡ no_memory) → wrong ≡ t
         → (GenomeTells read_wrong t ⊎ OthersTell read_wrong t) ⊎ TellsDevice mid.sink_has_failed mid.sink_last_failed t
@@ -274,8 +284,9 @@ module _ {G A B K : Type 0} (source_g : Source G) (source_a : Source A) (source_
             (answer ≡ Some write_failed) (IsFaultButWrite answer) (kept_by begun mid new fault answer (length (before ++ [])) (inr (before ++ [], begun_put before known, omega arith)) flushes.ends)
             (λ other. exact_by begun mid new fault answer (before ++ []) (λ was. begun_put before known) other flushes.ends)),
       );
-      served = λ none.
-          absurd (let apart : None ≡ Some wrong = sym (served_by begun mid new fault answer flushes.ends none).0 ∙ stops.0 in cc);
+      ended = λ none. absurd (no_end none);
+      served = λ none. absurd (no_end none);
+      no_failed_write = λ other. writes_over.failed_after ∙ (served_by begun mid new fault answer flushes.ends other).1 ∙ ap (λ (o : Output). o.sink_has_failed) stops.3 ∙ writes_over.served;
       no_failed = λ no_write never. (lacks.no_failed (subst TellsNoRead stops.0 (flushed_no_read mid new fault answer flushes no_write never)), refl, none_failed second);
       after_genome = λ file holds wrong e. (stops.1, stops.2);
       untouched = λ t e place at is. (stops.1, stops.2);

@@ -2,7 +2,7 @@ use Rattle.bt_bed.proofs.lemmas.order.TableLemmas.{passed_on}
 use Rattle.bt_lines.proofs.Std.{◌<◌, inl, inr, arith}
 use Rattle.bt_tool.specs.inside.Rounds.{IsLessIfReady, IsLessOrReady, TwoInputDef}
 use Rattle.bt_bed.specs.calls.SortedReader.{fault_in}
-use Rattle.bt_tool.proofs.loops.two_inputs.give_all.Goals as goal
+use Rattle.bt_tool.proofs.loops.two_inputs.run_two.Goals as goal
 
 -- a round leaves less to be wanted
 round_is_less : {E : Type 0} (def : TwoInputDef E) (old filled given : E) → IsLessOrReady def old filled → IsLessIfReady def filled given → def.left given < def.left old

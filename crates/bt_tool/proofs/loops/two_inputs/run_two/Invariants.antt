@@ -1,4 +1,4 @@
-use Rattle.bt_tool.proofs.loops.two_inputs.give_all.Given as goal
+use Rattle.bt_tool.proofs.loops.two_inputs.run_two.Given as goal
 
 -- the run has come so far
 abbrev pub invariant-loop-engine : goal.invariant-loop-engine
