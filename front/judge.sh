@@ -18,26 +18,8 @@ for dk_round in 1 2 3 4; do dk_kilobyte=$dk_kilobyte$dk_kilobyte$dk_kilobyte$dk_
 # bedtools cuts a line as it writes it, when a start may have eight digits more.
 dk_kilobyte=${dk_kilobyte#????????}
 
-# look_at_features FILE..: sets `dk_why` for merge, complement, intersect and subtract, and `dk_hits` to `several` if
-# hits have to be put in order
+# look_at_features FILE..: sets `dk_why` for merge, complement, intersect and subtract
 look_at_features() {
-    dk_hits='' dk_groups=''
-    [ "$dk_copied" = known ] || ! lists_hits || look_at_hits
-    [ -n "$dk_why" ] || look_at_each "$@"
-    # A fault ended the first look at the hits, where an order of chromosomes was to be found.
-    [ -n "$dk_why" ] || [ "$dk_hits" != some ] || find_hits
-    [ -n "$dk_why" ] || [ "$dk_hits" != some ] || dk_why='the hits of its records are not known'
-}
-
-# look_at_hits: sets `dk_hits` for hits that are listed, or `dk_why`
-look_at_hits() {
-    dk_why='the installation is broken'
-    ! read_part through.sh || ! read_part hits.sh || ! has_parts whole.awk hit_groups.awk hit_order.awk ||
-        { dk_why='' && find_hits; }
-}
-
-# look_at_each FILE..
-look_at_each() {
     [ -z "$dk_g" ] || look_at_genome "$dk_g"
     for dk_input; do
         [ -z "$dk_why" ] || return 0

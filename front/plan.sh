@@ -8,7 +8,6 @@
 #     streams.sh  how streams do; pour.sh gives long ones to the original
 #     judge.sh    what is in the files
 #     genomecov.sh, bamtobed.sh   the same of these commands, and the forms of the first
-#     hits.sh     hits that intersect lists
 #     through.sh  what awk makes of the program's output
 #     files.sh    what all of these use
 
@@ -58,7 +57,6 @@ decide() {
     [ -z "$dk_why" ] || return 0
     [ "$dk_copied" != known ] || take 'DUNEKETTLE_STREAMS says what its stream has' "$@"
     [ -z "$dk_ordered" ] || set -- "$@" -g "$dk_genome"
-    [ "$dk_hits" != several ] || write_hits "$@"
     take 'its words and its files are as it takes them' "$@"
 }
 

@@ -62,9 +62,6 @@ lists_hits() {
     ! has_word -wa || has_word -wb || has_word -wo
 }
 
-# writes_second: whether intersect writes the records of -b, which say how bedtools orders them
-writes_second() { has_word -wb || has_word -wo; }
-
 # streams_are_known: whether DUNEKETTLE_STREAMS takes the one stream as sorted BED, and no option goes by what else it
 # has
 streams_are_known() {
@@ -81,6 +78,7 @@ judge_words() {
     [ -z "$dk_why" ] || return
     case $dk_command$dk_words in
     *' -held '*) return ;; # which bedtools only refuses
+    intersect*) ! lists_hits || { dk_why='bedtools orders the hits of a record otherwise; -sorted orders them'; return; } ;;
     merge*' -s '*) dk_why='merge -s of bedtools leaves overlaps and another order'; return ;;
     complement*' -i '* | merge*) ;;
     complement*) dk_why='bedtools needs -i'; return ;;

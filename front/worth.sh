@@ -88,8 +88,6 @@ least_bytes() {
     bamtobed*) dk_least=18 ;;
     *) dk_least=6 ;;
     esac
-    # Several hits of a record have to be put in order, or end the look.
-    ! lists_hits || dk_least=64
     dk_least=$((dk_small * dk_least))
     [ -z "$dk_copied" ] || dk_least=$((dk_least / 2))
 }

@@ -33,6 +33,7 @@ NOTES = {
     "bt_bed": "BED records, the genome file",
     "bt_runs": "engines of one input",
     "bt_sweep": "the sweep over two inputs",
+    "bt_hits": "hits in the order of bedtools",
     "bt_seq": "SAM text, FASTA text",
     "bt_tool": "options, plan, run, outcome",
     "bt_front": "surveys, the verdict",

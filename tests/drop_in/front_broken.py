@@ -10,22 +10,21 @@ from front_tools import call, drop_in, install, looking, with_path
 
 # Calls that need a tool.
 NEEDY = (
-    "sort", "merge -i unsorted.bed", "intersect -s -u -a f.bed -b dot.bed", "intersect -a f.bed -b f.bed",
+    "sort", "merge -i unsorted.bed", "intersect -s -u -a f.bed -b dot.bed",
     "complement -i past_end.bed -g g.txt", "maskfasta -fi cut.fa -bed cut.bed -fo masked.fa",
     "bamtobed -i zero_pos.sam",
 )
-# What each call is given, and the script that lists hits.
+# The script, and a call that it takes.
 SCRIPT = "lib/dunekettle/script/bedtools"
 PARTS = (
     *(f"lib/dunekettle/{name}.sh"
       for name in ("words", "worth", "files", "copies", "streams", "pour", "judge", "plan", "hints")),
     "bin/dunekettle-bedtools", "lib/dunekettle/help.txt", "lib/dunekettle/drop-in", SCRIPT,
 )
-HITS = "intersect -wo -a f.bed -b f.bed"
+FORM = "genomecov -i f.bed -g g.txt"
 # The parts that all forms need, and those of some calls.
 BOTH = ("through.sh", "whole.awk")
-NEEDED = {HITS: ("hits.sh", "hit_groups.awk", "hit_order.awk"),
-          "genomecov -i f.bed -g g.txt": ("genomecov.sh", "order_genome.awk", "float.awk", "histogram.awk")}
+NEEDED = {FORM: ("genomecov.sh", "order_genome.awk", "float.awk", "histogram.awk")}
 
 
 def given(line):
@@ -72,7 +71,7 @@ def broken_place(top, part, how):
     return broken
 
 
-def try_broken_part(part, how, wanted_hits, folder, count):
+def try_broken_part(part, how, wanted_form, folder, count):
     """The program of the drop-in runs a call; the script does if that is broken, and takes what it leaves."""
     top = folder.parent
     broken = broken_place(top, part, how)
@@ -83,8 +82,8 @@ def try_broken_part(part, how, wanted_hits, folder, count):
     if part == SCRIPT and not is_lost:
         return
     is_needed = "help" not in part and "hints" not in part and "drop-in" not in part
-    output, _, status = call(["bedtools", *HITS.split()], folder, env)
-    count.expect(f"{part} {how}: {HITS}", (given(HITS), 7) if is_needed else wanted_hits, (output, status))
+    output, _, status = call(["bedtools", *FORM.split()], folder, env)
+    count.expect(f"{part} {how}: {FORM}", (given(FORM), 7) if is_needed else wanted_form, (output, status))
     count.expect(f"{part} {how}: --version", (b"bedtools v2.30.0\n", "", 0),
                  call(["bedtools", "--version"], folder, env))
     if "bedtools" not in part and how != "half":
@@ -95,7 +94,7 @@ def try_broken_part(part, how, wanted_hits, folder, count):
 def try_broken_parts(place, folder, count):
     """A call answers as ever, or the original takes it."""
     top = folder.parent
-    output, _, status = call([drop_in(place) / "bedtools", *HITS.split()], folder, looking())
+    output, _, status = call([drop_in(place) / "bedtools", *FORM.split()], folder, looking())
     for part in PARTS:
         for how in ("missing", "empty", "half", "a folder"):
             try_broken_part(part, how, (output, status), folder, count)

@@ -54,16 +54,16 @@ OURS = (
     "genomecov -dz -i d.bed -g g.txt", "genomecov -bg -scale 0.3 -i d.bed -g g.txt",
     "genomecov -bga -strand + -i d.bed -g g.txt", "genomecov -bga -i late.bed -g g.txt",
     "genomecov -bg -split -i blocks.bed -g g.txt", "intersect -wa -wb -a f.bed -b f.bed",
-    "intersect -wo -a f.bed -b f.bed",
+    "intersect -wo -a f.bed -b f.bed", "intersect -a f.bed -b f.bed",
 )
 THEIRS = (
-    "complement -i past.bed -g g.txt", "intersect -s -u -a d.bed -b dot.bed", "intersect -a f.bed -b f.bed",
+    "complement -i past.bed -g g.txt", "intersect -s -u -a d.bed -b dot.bed",
     "intersect -f 0.25000001 -u -a long.bed -b f.bed", "maskfasta -fi two.fa -bed d.bed -fo masked.fa",
     "bamtobed -i zero.sam", "merge -i crlf.bed", "merge -i numbers.vcf", "merge -i wide.bed",
     "intersect -u -a d.bed -b bare.bed", "subtract -a bare.bed -b d.bed",
 )
 # What awk writes itself, but for one call of these.
-BY_AWK, BUT_FOR = ("genomecov", "intersect -wa -wb", "intersect -wo"), "genomecov -bga -i d.bed -g g.txt"
+BY_AWK, BUT_FOR = ("genomecov",), "genomecov -bga -i d.bed -g g.txt"
 
 
 class Cost(NamedTuple):
@@ -147,7 +147,7 @@ def try_temporary_folders(place, folder, count):
     count.expect("what they left", [], list(temporary.iterdir()))
     dies = fake(top / "dies", "mktemp", f'{shutil.which("mktemp")} "$@"\nkill -s KILL $$')
     env = with_path(drop_in(place), dies, top / "says", top / "tools", TMPDIR=str(temporary))
-    status = call(["bedtools", "intersect", "-wo", "-a", "f.bed", "-b", "f.bed"], folder, env)[2]
+    status = call(["bedtools", "genomecov", "-d", "-i", "f.bed", "-g", "g.txt"], folder, env)[2]
     count.expect("a mktemp that dies", (7, []), (status, list(temporary.iterdir())))
 
 

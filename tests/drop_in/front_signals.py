@@ -243,14 +243,14 @@ def try_gone_readers(place, folder, count):
 
 
 def try_failed_writes(place, folder, count):
-    """What awk can't write, of a form of genomecov or of hits, is a fault as that of the program is."""
+    """What awk can't write of a form of genomecov is a fault as that of the program is."""
     for name in filter(shutil.which, ("mawk", "gawk")):
         made = folder.parent / f"{name} alone"
         made.mkdir()
         (made / "awk").symlink_to(shutil.which(name))
         env = with_path(drop_in(place), made, folder.parent / "says", folder.parent / "tools")
         for line in ("genomecov -d -i long.bed -g far.txt", "genomecov -bg -scale 0.5 -i long.bed -g far.txt",
-                     "genomecov -i long.bed -g far.txt", "intersect -wo -a wide.bed -b long.bed"):
+                     "genomecov -i long.bed -g far.txt"):
             command, line = line.split()[0], f"bedtools {line}"
             for script in (f"{line} > /dev/full", f"{line} >&-",
                            f"trap '' PIPE; {line} | true; exit ${{PIPESTATUS[0]}}"):

@@ -137,8 +137,7 @@ def try_losses(place, folder, count):
                   f'[ "$1" != -c ] || [ "$2" -le 1 ] || {{ {shutil.which("head")} -c 100; exit 1; }}; '
                   f'exec {shutil.which("head")} "$@"')
     env = looking(drop_in(place), broken)
-    for script in ("cat wide.bed | bedtools intersect -wo -a - -b a.bed",
-                   "bedtools intersect -u -a <(cat a.bed) -b <(cat a.bed)"):
+    for script in ("bedtools intersect -u -a <(cat a.bed) -b <(cat a.bed)",):
         found = call(["bash", "-c", script], folder, env)
         count.expect(f"a copy that fails: {script}", (b"", 1, True),
                      (found[0], found[2], "a stream is lost" in found[1]))
@@ -152,10 +151,9 @@ def try_losses(place, folder, count):
         count.expect(f"a head that takes too much: {script}", wanted, found)
     little = fake(folder.parent / "little room", "df", "printf 'a\\na 1 1 1 1 a\\n'")
     # What is kept in memory needs no room there.
-    for script, taker in (("cat wide.bed | bedtools intersect -wo -a - -b a.bed", str(original())),
-                          ("cat a.bed | bedtools merge", "Dunekettle")):
+    for script in ("cat wide.bed | bedtools intersect -wo -a - -b a.bed", "cat a.bed | bedtools merge"):
         found = call(["bash", "-c", script], folder, looking(drop_in(place), little, DUNEKETTLE_TELL="1"))
-        count.expect(f"little room: {script}", (taker, 0), (TOLD.findall(found[1])[0][0], found[2]))
+        count.expect(f"little room: {script}", ("Dunekettle", 0), (TOLD.findall(found[1])[0][0], found[2]))
     if is_busy("a feeder that is killed"):
         return
     slow = "(head -n 4000 a.bed; sleep 2; tail -n 4000 a.bed) |"
@@ -196,14 +194,13 @@ def try_signals(place, folder, count):
         return
     slow = fake(folder.parent / "slow tr", "tr", "exec sleep 60")
     awk = fake(folder.parent / "slow awk", "awk",
-               f'case "$*" in *histogram* | *hit_order*) exec sleep 60 ;; esac; exec {shutil.which("awk")} "$@"')
+               f'case "$*" in *histogram*) exec sleep 60 ;; esac; exec {shutil.which("awk")} "$@"')
     scripts = {
         "copies": ("exec bedtools merge -i <(sleep 60)", ()),
         "two copies": ("exec bedtools intersect -a <(sleep 60) -b <(cat a.bed)", ()),
         "opens": ("rm -f p q; mkfifo p q; cat a.bed > p & exec bedtools intersect -a p -b q", ()),
-        "looks": ("exec bedtools intersect -wo -a wide.bed -b a.bed", (slow,)),
+        "looks": ("exec bedtools intersect -u -a <(cat wide.bed) -b <(cat a.bed)", (slow,)),
         "writes": ("exec bedtools genomecov -i a.bed -g g.txt", (awk,)),
-        "writes hits": ("exec bedtools intersect -wo -a wide.bed -b a.bed", (awk,)),
         "pours": ("exec bedtools merge -i <(tee < a.bed; sleep 60)", ()),
         "pours two": ("exec bedtools intersect -sorted -a <(tee < a.bed; sleep 60) -b <(sleep 60)", ()),
     }

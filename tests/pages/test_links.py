@@ -90,7 +90,7 @@ BEGINS = re.compile(r"^(?:(?:(?:abbrev|unfoldable|pub|record|data) )+|(?=\S+ : )
                     r"  (?:(?:abbrev|unfoldable)(?: pub)?|(?:pub )?(?:record|data)) )(?!--|record |data )(\S+)",
                     re.MULTILINE)
 WORD = re.compile(r"(?<![.\w])\w+")
-OF_FRONT = re.compile(r"use Rattle\.bt_front\.specs\.model\.(\w+)\.\{(.*)\}")
+OF_DROP_IN = re.compile(r"use Rattle\.(bt_front|bt_hits)\.specs\.model\.(\w+)\.\{(.*)\}")
 FROM_MODEL = re.compile(r"^use Rattle\.(bt_\w+)\.specs\.model\.(\w+)\.\{(.*)\}", re.MULTILINE)
 MAY_IMPORT = re.compile(r"use Rattle\.(?:std\.specs|bt_\w+\.specs\.(?:model|declared))\.")
 
@@ -222,22 +222,23 @@ def without_a_head():
             yield f"front/{file.name} doesn't say at its head what it does"
 
 
-def said_by_front():
-    """The definitions of the model that contracts of bt_front name: the file and the name of each."""
-    crate = TOP / "crates" / "bt_front"
-    for file in (*crate.glob("src/**/*.rt"), *crate.glob("specs/calls/*.antt")):
-        for module, items in OF_FRONT.findall(file.read_text(encoding="utf-8")):
-            yield from ((crate / "specs" / "model" / f"{module}.antt", name) for name in re.findall(r"\w+", items))
+def said_by_drop_in():
+    """The definitions of the model that contracts of bt_front and bt_hits name: the file and the name of each."""
+    for crate in (TOP / "crates" / "bt_front", TOP / "crates" / "bt_hits"):
+        for file in (*crate.glob("src/**/*.rt"), *crate.glob("specs/calls/*.antt")):
+            for named, module, items in OF_DROP_IN.findall(file.read_text(encoding="utf-8")):
+                place = TOP / "crates" / named / "specs" / "model" / f"{module}.antt"
+                yield from ((place, name) for name in re.findall(r"\w+", items))
 
 
 def strays():
     """What files of `model` import that isn't of it, of std or made of code; and files that nothing names: neither the
-    report nor a contract of bt_front."""
+    report nor a contract of bt_front or bt_hits."""
     for file in sorted(model()):
         for line in re.findall(r"^\s*((?:pub )?use .*)", file.read_text(encoding="utf-8"), re.MULTILINE):
             if not MAY_IMPORT.match(line) and line not in FOUND:
                 yield f"{file.relative_to(TOP)} has an import that isn't of the model: {line}"
-    for file in sorted(model() - definitions() - {file for file, _ in said_by_front()}):
+    for file in sorted(model() - definitions() - {file for file, _ in said_by_drop_in()}):
         yield f"{file.relative_to(TOP)} is of the model, and nothing names it"
 
 
@@ -260,11 +261,11 @@ def imports_of(file):
 
 
 def unnamed():
-    """The definitions of the model that neither the report nor a contract of bt_front names, directly or through
-    others. A variable counts as the definition of its name, and an operator as a name that nothing has."""
+    """The definitions of the model that neither the report nor a contract of bt_front or bt_hits names, directly or
+    through others. A variable counts as the definition of its name, and an operator as a name that nothing has."""
     words = {file: words_of(file) for file in sorted(model())}
     places = {file: {**{name: (file, name) for name in words[file]}, **imports_of(file)} for file in words}
-    found, open_ones = set(), [(REPORT, "report"), *said_by_front()]
+    found, open_ones = set(), [(REPORT, "report"), *said_by_drop_in()]
     while open_ones:
         file, name = open_ones.pop()
         if (file, name) not in found:

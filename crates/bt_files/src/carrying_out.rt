@@ -163,8 +163,8 @@ fn cannot_open(alloc: Global, plan: &Plan, name: &str) -> Message
     Message::of(alloc, &Obstacle::CannotOpen(plan.command.name(), name))
 }
 
-// How a run ended: its fault, if there is one, is reported.
-fn end_of(alloc: Global, plan: &Plan, outcome: &Outcome) -> Message
+/// How a run ended: its fault, if there is one, is reported.
+pub fn end_of(alloc: Global, plan: &Plan, outcome: &Outcome) -> Message
     ensures { ReportsRun (plan_seen plan.now) (option_map fault_value outcome.now.fault) result }
 {
     let line = match outcome.fault_line(alloc, plan) {

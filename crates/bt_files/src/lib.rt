@@ -42,7 +42,7 @@ mod output;
 mod stand_ins;
 mod system_files;
 
-pub use carrying_out::{Finished, OpenedFiles, carry_out};
+pub use carrying_out::{Finished, OpenedFiles, carry_out, end_of};
 pub use files::{Files, Unopened};
 pub use headline::real_files_get_their_report;
 pub use identity::is_input;

@@ -1,5 +1,6 @@
 -- Lemmas by theme.
 pub mod GenomeLemmas
+pub mod HitLemmas
 pub mod KeptLemmas
 pub mod MarkLemmas
 pub mod OriginalLemmas

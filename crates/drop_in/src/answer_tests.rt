@@ -9,7 +9,7 @@ use crate::why::Why;
 use crate::words::Request;
 use bt_files::{Files, Unopened};
 use bt_front::{OddLine, Oddity, Reason, Trouble};
-use bt_lines::{Input, ScriptSink, ScriptSource};
+use bt_lines::{Fault, Input, Kind, Place, ScriptSink, ScriptSource};
 use bt_tool::Plan;
 use std::alloc::{AllocError, Global};
 use std::process::Abort;
@@ -74,6 +74,27 @@ const OTHER: &[u8] = b"chr2\t0\t4\nchr1\t2\t4\n";
 
 const BACK: &[u8] = b"chr1\t3\t9\nchr1\t1\t5\n";
 
+// Of one record hits in a large bin and in a small one, which bedtools lists first.
+const PEAKS: &[u8] = b"chr2\t5\t9\nchr1\t100\t200\n";
+
+const GENES: &[u8] = b"chr2\t1\t6\nchr1\t0\t20000\nchr1\t10\t150\n";
+
+// More than there is room for.
+const LONG: &[u8] =
+    b"chr1\t0\t20000\tabcdefghijklmnopqrstuvwxyzabcdefghijklmnopqrstuvwxyzabcdefghijklmnopqrstuvwxyz\n\
+    chr1\t10\t150\tabcdefghijklmnopqrstuvwxyz\n";
+
+const OUT_OF_ORDER: Why = Why::Text(
+    Input::Second,
+    Trouble::Refused(Fault {
+        kind: Kind::OutOfOrder,
+        place: Some(Place {
+            input: Input::First,
+            line: 2,
+        }),
+    }),
+);
+
 const BLANK: Why = Why::Text(
     Input::First,
     Trouble::Odd(OddLine {
@@ -83,7 +104,7 @@ const BLANK: Why = Why::Text(
 );
 
 #[rattlefmt::skip]
-const ROWS: [Row; 14] = [
+const ROWS: [Row; 21] = [
     ("merge -i a", FILES, ONE, b"", b"", Some(b"chr1\t1\t9\n"), None, None),
     ("merge -i a", (true, false), ONE, b"", b"", Some(b"chr1\t1\t9\n"), None, None),
     ("merge -i a", FILES, OTHER, b"", b"", Some(b"chr2\t0\t4\nchr1\t2\t4\n"), None, None),
@@ -97,7 +118,14 @@ const ROWS: [Row; 14] = [
     ("merge -i a", (true, false), b"chr1\t1\t5\n\nchr1\t3\t9\n", b"", b"", None, Some(BLANK), Some(b"chr1\t1\t5\n\nchr1")),
     ("merge -i c", FILES, ONE, b"", b"", None, Some(Why::Unopened(Input::First)), None),
     ("intersect -v -a a -b b", (true, true), ONE, ONE, b"", None, Some(Why::TwoStreams), None),
-    ("intersect -wb -a a -b b", FILES, ONE, BACK, b"", None, Some(Why::Hits), None),
+    ("intersect -wb -a a -b b", FILES, PEAKS, GENES, b"", Some(b"chr2\t5\t6\tchr2\t1\t6\nchr1\t100\t150\tchr1\t10\t150\nchr1\t100\t200\tchr1\t0\t20000\n"), None, None),
+    ("intersect -wo -a a -b b", FILES, PEAKS, GENES, b"", Some(b"chr2\t5\t9\tchr2\t1\t6\t1\nchr1\t100\t200\tchr1\t10\t150\t50\nchr1\t100\t200\tchr1\t0\t20000\t100\n"), None, None),
+    ("intersect -a a -b b", FILES, PEAKS, GENES, b"", Some(b"chr2\t5\t6\nchr1\t100\t150\nchr1\t100\t200\n"), None, None),
+    ("intersect -wa -wb -a a -b b", (true, false), PEAKS, GENES, b"", Some(b"chr2\t5\t9\tchr2\t1\t6\nchr1\t100\t200\tchr1\t10\t150\nchr1\t100\t200\tchr1\t0\t20000\n"), None, None),
+    ("intersect -wa -wb -a a -b b", (false, true), PEAKS, GENES, b"", Some(b"chr2\t5\t9\tchr2\t1\t6\nchr1\t100\t200\tchr1\t10\t150\nchr1\t100\t200\tchr1\t0\t20000\n"), None, None),
+    ("intersect -wb -a a -b b", FILES, PEAKS, LONG, b"", None, Some(Why::HitsRoom), None),
+    ("intersect -wb -a a -b b", (true, false), PEAKS, LONG, b"", None, Some(Why::HitsRoom), Some(PEAKS)),
+    ("intersect -wb -a a -b b", FILES, ONE, BACK, b"", None, Some(OUT_OF_ORDER), None),
 ];
 
 // The words of a line, which spaces divide.
@@ -146,6 +174,7 @@ fn becomes(alloc: Global, row: &Row) -> Result<bool, Fail> {
             Some(left) => Ok(is_text(left.output.taken(), row.5)),
             None => Ok(false),
         },
+        Answered::Listed(listed) => Ok(is_text(listed.output.taken(), row.5)),
         Answered::Left(left) => {
             let Left { why, stream } = left;
             match stream {

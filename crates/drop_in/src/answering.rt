@@ -2,9 +2,9 @@
 
 ghost use Rattle.std.specs.Prelude.{◌≡◌, IfErr, IfNone, IfOk, IfSome, is_some, option_copied, option_map, string_bytes, true};
 ghost use Rattle.bt_tool.specs.calls.Plan.{plan_seen};
-ghost use Rattle.bt_front.specs.model.Verdict.{has_survey, names_seen, second_names, verdict_of};
+ghost use Rattle.bt_front.specs.model.Verdict.{has_survey, lists_hits, names_seen, second_names, verdict_of};
 ghost use Rattle.bt_front.specs.model.Fitting.{common_names, order_text as text_of_order};
-ghost use Rattle.drop_in.specs.calls.Answer.{Answers, LeavesCall, LeavesFiles, LeavesOpened, LeavesStreams, Looks, LooksAtOpened, SeesInputs};
+ghost use Rattle.drop_in.specs.calls.Answer.{Answers, ListsTaken, LeavesCall, LeavesFiles, LeavesOpened, LeavesStreams, Looks, LooksAtOpened, SeesInputs};
 ghost use Rattle.drop_in.specs.calls.Call.{AreReady, AreRunnable, IsLeftByVerdict, IsOrder, IsTaken, Reads, RunsInputs, entries_if, plan_by, reading_if, stream_among, survey_if};
 ghost use Rattle.drop_in.specs.calls.Looks.{LeavesIfFile, LeavesInput, LeavesInputIf, LeavesOther, ReadsGenomeIf, SeesFiles, SeesIfFile, SeesInput, SeesInputIf, SeesOther};
 ghost use Rattle.drop_in.specs.calls.Whys.{IsWhyOfOrder, IsWhyOfScript, IsWhyOfVerdict};
@@ -12,6 +12,7 @@ ghost use Rattle.bt_lines.specs.declared.fault.Input.TheVariants.{Second};
 
 use crate::front_files::{FrontFiles, FrontInput};
 use crate::genome_file::{GenomeFile, read_genome};
+use crate::hits::{Listed, list_inputs};
 use crate::looks::{Left, ReadStream, Reading, Seen, look_at_file, look_at_stream};
 use crate::opening::{CallInputs, FileOrStream, OpenedFile, OpenedFiles, Streams, open_all};
 use crate::why::Why;
@@ -28,6 +29,8 @@ use std::alloc::Global;
 pub enum Answered<I, O> {
     /// It was run.
     Took(Finished<FrontInput<I>, O>),
+    /// Its hits were listed.
+    Listed(Listed<O>),
     /// It wasn't.
     Left(Left<I>),
 }
@@ -54,10 +57,31 @@ pub fn answer<I: Source + Drop, F: Files<Input = I>>(
     let mut files = files;
     match look(alloc, &mut files, &request, streams, room) {
         Ok(inputs) => {
+            if request.orders_hits() {
+                return list_taken(alloc, files, &request.plan, inputs, room);
+            }
             let (finished, files) = run_inputs(alloc, files, request.plan, inputs);
             (Answered::Took(finished), files)
         }
         Err(left) => (Answered::Left(left), files),
+    }
+}
+
+// Lists the hits of these inputs, unless there is no room for them.
+fn list_taken<I: Source + Drop, F: Files<Input = I>>(
+    alloc: Global,
+    files: F,
+    plan: &Plan,
+    inputs: Inputs<I>,
+    room: usize,
+) -> (Answered<I, F::Output>, F)
+    requires { lists_hits plan.now.command ≡ true }
+    ensures { ListsTaken F.Files I.Source F.Output.Sink files (plan_seen plan.now) inputs result.0 result.1 }
+{
+    let mut now = files;
+    match list_inputs(alloc, &mut now, plan, inputs, room) {
+        Ok(listed) => (Answered::Listed(listed), now),
+        Err(left) => (Answered::Left(left), now),
     }
 }
 
@@ -136,7 +160,7 @@ fn look<F: Files>(
     ensures looks { IfOk result (λ inputs. Looks F.Files F.Input.Source files.old request.now streams inputs files.new) }
     ensures leaves { IfErr result (λ left. LeavesCall F.Files F.Input.Source files.old request.now streams room left files.new) }
 {
-    if let Some(why) = script_why(request, streams) {
+    if let Some(why) = script_why(streams) {
         return Err(Left { why, stream: None });
     }
     let opened = match open_all(files, &request.plan, streams) {
@@ -150,13 +174,11 @@ fn look<F: Files>(
 }
 
 // Why the script takes the call.
-fn script_why(request: &Request, streams: Streams) -> Option<Why>
-    ensures runnable { IfNone result (AreRunnable request.now streams) }
-    ensures why { IfSome result (IsWhyOfScript request.now streams) }
+fn script_why(streams: Streams) -> Option<Why>
+    ensures runnable { IfNone result (AreRunnable streams) }
+    ensures why { IfSome result (IsWhyOfScript streams) }
 {
-    if request.orders_hits() {
-        Some(Why::Hits)
-    } else if streams.genome {
+    if streams.genome {
         Some(Why::GenomeStream)
     } else if streams.first && streams.second {
         Some(Why::TwoStreams)
@@ -375,8 +397,8 @@ fn reading_if<I: Drop>(seen: Option<Seen<I>>) -> Option<Reading<I>>
     }
 }
 
-// The stream among the inputs.
-fn stream_among<I: Drop>(first: Reading<I>, second: Option<Reading<I>>) -> Option<ReadStream<I>>
+/// The stream among the inputs.
+pub fn stream_among<I: Drop>(first: Reading<I>, second: Option<Reading<I>>) -> Option<ReadStream<I>>
     ensures { result ≡ stream_among first second }
 {
     match first {

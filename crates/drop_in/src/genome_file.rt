@@ -27,7 +27,7 @@ pub struct GenomeFile {
 pub fn read_genome<I: Source + Drop>(alloc: Global, source: I) -> Result<GenomeFile, Why>
     ensures { IfOk result (ReadsGenome I.Source source) }
 {
-    let Some(text) = read_text(alloc, source) else {
+    let Some(text) = read_text(alloc, source, usize::MAX) else {
         return Err(Why::Unopened(Input::Genome));
     };
     if let Some(why) = odd_in(text.as_slice()) {
@@ -39,11 +39,11 @@ pub fn read_genome<I: Source + Drop>(alloc: Global, source: I) -> Result<GenomeF
     }
 }
 
-// All that a source hands over, up to its end.
-fn read_text<S: Source + Drop>(alloc: Global, source: S) -> Option<Vec<u8>>
+/// All that a source hands over, up to its end. None if a read fails, or it is much more than there is room for.
+pub fn read_text<S: Source + Drop>(alloc: Global, source: S, room: usize) -> Option<Vec<u8>>
     ensures { IfSome result (λ text. ReadsText S.Source source text.items) }
 {
-    let mut keeping = Keeping::new(alloc, source, usize::MAX);
+    let mut keeping = Keeping::new(alloc, source, room);
     let mut piece = [0u8; PIECE];
     for _ in 0..u64::MAX {
         match keeping.read(&mut piece) {
@@ -58,8 +58,8 @@ fn read_text<S: Source + Drop>(alloc: Global, source: S) -> Option<Vec<u8>>
     None
 }
 
-// The chromosomes of a text.
-fn genome_in(alloc: Global, text: &[u8]) -> Result<Genome, Fault>
+/// The chromosomes of a text.
+pub fn genome_in(alloc: Global, text: &[u8]) -> Result<Genome, Fault>
     ensures { IfOk result (λ genome. genome_handed OfGenome (whole_text text.now) ≡ Ok (entries genome)) }
 {
     let source = FromRead::new(text);

@@ -16,6 +16,7 @@ mod answer_tests;
 mod answering;
 mod front_files;
 mod genome_file;
+mod hits;
 mod leaving;
 mod line;
 mod looks;
@@ -36,10 +37,11 @@ mod why;
 mod words;
 
 use answering::{Answered, answer};
-use bt_files::{Finished, Opened, Output, StandIns, SystemFiles};
+use bt_files::{Finished, Message, Opened, Output, StandIns, SystemFiles};
 use bt_lines::{Input, Sink};
 use bt_tool::Plan;
 use front_files::FrontInput;
+use hits::Listed;
 use leaving::{Call, Cause, Heir};
 use opening::Streams;
 use original::Original;
@@ -47,7 +49,7 @@ use std::env::Env;
 use std::fs::File;
 use std::process::ExitCode;
 use std::{env, io};
-use system::{DropInFiles, find_original, open_pipe, room, streams_of, writes_to_pipe};
+use system::{DropInFiles, find_original, fit_room, open_pipe, room, streams_of, writes_to_pipe};
 use system_programs::SystemPrograms;
 use versions::{is_for_any_version, is_known_version};
 use warning::Case;
@@ -133,10 +135,9 @@ fn answer_call(call: &Call<'_>, pipe: File) -> u8 {
     }
 }
 
-// Why the bedtools on PATH takes the words of a request: it isn't of a version that all was compared with. If the shell takes
-// the call anyway, it looks for that itself.
+// Why the bedtools on PATH takes the words of a request: it isn't of a version that all was compared with.
 fn why_unknown(rt: &HostRuntime, request: &Request) -> Option<Why> {
-    if request.orders_hits() || is_for_any_version(request.plan.command, request.is_sorted) {
+    if is_for_any_version(request.plan.command, request.is_sorted) {
         return None;
     }
     match find_original(rt) {
@@ -153,14 +154,21 @@ fn answer_files(call: &Call<'_>, pipe: File, request: Request, streams: Streams)
     let Ok(names) = InputNames::of(call.rt, &request) else {
         return call.leave(pipe, cause_of(Why::NoMemory));
     };
+    let Some(room) = room(call.rt) else {
+        return call.leave(pipe, cause_of(Why::Room));
+    };
+    if request.orders_hits() && !fit_room(call.rt, &request.plan, room) {
+        return call.leave(pipe, cause_of(Why::HitsRoom));
+    }
     let files = DropInFiles {
         system: SystemFiles { rt: call.rt },
         pipe,
         command: request.plan.command.name(),
     };
-    let (answered, files) = answer(call.rt.alloc(), files, request, streams, 0);
+    let (answered, files) = answer(call.rt.alloc(), files, request, streams, room);
     match answered {
         Answered::Took(finished) => end(call.rt, finished),
+        Answered::Listed(listed) => end_listed(call.rt, listed),
         Answered::Left(left) => call.leave(files.pipe, names.cause(left.why)),
     }
 }
@@ -190,6 +198,7 @@ fn answer_stream(
     let (answered, files) = answer(call.rt.alloc(), files, request, streams, room);
     match answered {
         Answered::Took(finished) => end(call.rt, finished),
+        Answered::Listed(listed) => end_listed(call.rt, listed),
         Answered::Left(left) => {
             let cause = names.cause(left.why);
             match left.stream {
@@ -260,15 +269,25 @@ fn word_of(words: &[String], plan: &Plan, is_second: bool) -> Option<usize> {
     stream_word(words, option_of(plan.command, input), name)
 }
 
-// How a call that was run ends. If its output has no reader any more, the script ends as bedtools does then.
+// How a call that was run ends.
 fn end(rt: &HostRuntime, finished: Finished<FrontInput<Opened>, Output>) -> u8 {
     let has_failed = match &finished.left {
         Some(left) => left.output.failed(),
         None => false,
     };
+    end_with(rt, &finished.message, has_failed)
+}
+
+// How a call whose hits were listed ends.
+fn end_listed(rt: &HostRuntime, listed: Listed<Output>) -> u8 {
+    end_with(rt, &listed.message, listed.output.failed())
+}
+
+// If the output has no reader any more, the script ends as bedtools does then.
+fn end_with(rt: &HostRuntime, message: &Message, has_failed: bool) -> u8 {
     if has_failed && writes_to_pipe(rt) {
         return GONE;
     }
-    finished.message.print(rt);
-    finished.message.status
+    message.print(rt);
+    message.status
 }

@@ -38,6 +38,24 @@ pub fn room(rt: &HostRuntime) -> Option<usize> {
     }
 }
 
+/// Whether the inputs of a plan that are files fit the room, both together.
+pub fn fit_room(rt: &HostRuntime, plan: &Plan, room: usize) -> bool {
+    let first = size_of(rt, plan.first.as_str());
+    let second = match &plan.second {
+        Some(second) => size_of(rt, second.as_str()),
+        None => 0,
+    };
+    first.saturating_add(second) <= room as u64
+}
+
+// How many bytes a file has; of what is no file it isn't known.
+fn size_of(rt: &HostRuntime, name: &str) -> u64 {
+    match fs::metadata(rt, name) {
+        Ok(found) => found.len(),
+        Err(_) => 0,
+    }
+}
+
 /// Which inputs of a plan are streams.
 pub fn streams_of(rt: &HostRuntime, plan: &Plan) -> Streams {
     Streams {

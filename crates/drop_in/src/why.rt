@@ -37,8 +37,10 @@ pub enum Why {
     CoverageForm,
     /// It limits how many records are held.
     Limit,
-    /// The hits of a record have to be put in order.
-    Hits,
+    /// The inputs don't fit the room in which hits are put in order.
+    HitsRoom,
+    /// An input was changed while it was read.
+    Changed,
     /// Both inputs are streams.
     TwoStreams,
     /// The genome file is a stream.
@@ -74,7 +76,6 @@ impl Why {
             Why::Alignments
             | Why::CoverageForm
             | Why::Limit
-            | Why::Hits
             | Why::TwoStreams
             | Why::GenomeStream
             | Why::NoOriginal
@@ -114,7 +115,8 @@ impl Why {
             Why::Alignments => "it converts alignments",
             Why::CoverageForm => "it is a form of genomecov that awk makes",
             Why::Limit => "it limits the records that are held",
-            Why::Hits => "the hits of a record have to be put in order",
+            Why::HitsRoom => "its inputs don't fit DUNEKETTLE_ROOM, in which hits are put in order",
+            Why::Changed => "a file changed while it was read",
             Why::TwoStreams => "two of its inputs are streams",
             Why::GenomeStream => "it is a stream",
             Why::NoOriginal => "there is no other bedtools on PATH",

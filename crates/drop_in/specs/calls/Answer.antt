@@ -1,21 +1,23 @@
 -- What becomes of a call: files are those before and after.
-use Rattle.std.specs.Prelude.{ℕ, ◌≡◌, true, Option, None, is_some}
+use Rattle.std.specs.Prelude.{ℕ, ◌≡◌, true, false, Option, None, is_some}
 use Rattle.bt_lines.specs.declared.device.Sink.{Ghosts as Sink}
 use Rattle.bt_lines.specs.declared.device.Source.{Ghosts as Source}
 use Rattle.bt_lines.specs.declared.fault.Input.TheVariants.{First, Second}
 use Rattle.bt_files.specs.declared.carrying_out.Finished.{Finished}
 use Rattle.bt_files.specs.declared.files.Files.{Ghosts as Files}
 use Rattle.bt_tool.specs.calls.Plan.{plan_seen}
-use Rattle.bt_tool.specs.model.Options.{Named}
-use Rattle.drop_in.specs.calls.Call.{AreRunnable, IsLeftByVerdict, IsTaken, RunsInputs, asked_by}
+use Rattle.bt_tool.specs.model.Options.{Named, PlanSeen}
+use Rattle.drop_in.specs.calls.Call.{AreRunnable, IsLeftByVerdict, IsTaken, RunsInputs, asked_by, stream_among}
+use Rattle.drop_in.specs.calls.Hits.{IsWhyOfHits, ListsInputs}
 use Rattle.drop_in.specs.calls.Looks.{LeavesIfFile, LeavesInput, LeavesInputIf, LeavesOther, ReadsGenomeIf, SeesFiles, SeesIfFile, SeesInput, SeesInputIf}
 use Rattle.drop_in.specs.calls.Opening.{CannotOpen, OpensAll}
-use Rattle.drop_in.specs.calls.Whys.{IsWhyOfScript}
+use Rattle.drop_in.specs.calls.Whys.{IsWhyOfScript, orders_hits}
 use Rattle.drop_in.specs.declared.answering.Answered.{Answered}
-use Rattle.drop_in.specs.declared.answering.Answered.TheVariants.{Left as IsLeft, Took}
+use Rattle.drop_in.specs.declared.answering.Answered.TheVariants.{Left as IsLeft, Listed as Lists, Took}
 use Rattle.drop_in.specs.declared.answering.Inputs.{Inputs}
 use Rattle.drop_in.specs.declared.front_files.FrontInput.{FrontInput}
 use Rattle.drop_in.specs.declared.genome_file.GenomeFile.{GenomeFile}
+use Rattle.drop_in.specs.declared.hits.Listed.{Listed}
 use Rattle.drop_in.specs.declared.looks.Left.{Left}
 use Rattle.drop_in.specs.declared.looks.Seen.{Seen}
 use Rattle.drop_in.specs.declared.opening.CallInputs.{CallInputs}
@@ -79,32 +81,53 @@ module _ {F I O : Type 0} (files : Files F I O) (source : Source I) where
 
   -- The inputs of a call were looked at, once all its files were opened, and the verdict takes it with these inputs.
   pub record Looks (before : F) (request : Request) (streams : Streams) (inputs : Inputs I) (after : F) : Type 0 where
-    pub runnable : AreRunnable request streams
+    pub runnable : AreRunnable streams
     pub opened : OpenedFiles I
     pub between : F
     pub opens : OpensAll files before (plan_seen request.plan).names streams opened between
     pub looks : LooksAtOpened between request opened inputs after
 
-  -- It is left: to the script, whatever is in the files; or a file can't be opened; or once all were opened, for what they are.
+  -- It is left: to the script, whatever is in the files; or a file can't be opened; or once all were opened, for what they are;
+  -- or its hits can't be listed, though the verdict takes it.
   pub data LeavesCall (before : F) (request : Request) (streams : Streams) (room : ℕ) (left : Left I) (after : F) : Type 0 where
-    to_script : left.stream ≡ None → after ≡ before → IsWhyOfScript request streams left.why
+    to_script : left.stream ≡ None → after ≡ before → IsWhyOfScript streams left.why
         → LeavesCall before request streams room left after
     unopened : left.stream ≡ None → CannotOpen files before (plan_seen request.plan).names streams left.why after
         → LeavesCall before request streams room left after
-    once_opened : (opened : OpenedFiles I) (between : F) → AreRunnable request streams
+    once_opened : (opened : OpenedFiles I) (between : F) → AreRunnable streams
         → OpensAll files before (plan_seen request.plan).names streams opened between
         → LeavesOpened between request opened room left after → LeavesCall before request streams room left after
+    once_taken : (inputs : Inputs I) → orders_hits request ≡ true → Looks before request streams inputs after
+        → left.stream ≡ stream_among inputs.first inputs.second → IsWhyOfHits left.why
+        → LeavesCall before request streams room left after
 
 module _ {F I O : Type 0} (files : Files F I O) (source : Source I) (sink : Sink O) where
-  -- a call is taken: its inputs were looked at, and then its plan was run over them
+  -- a call is taken: its inputs were looked at, no hits have to be put in order, and then its plan was run over them
   pub record Takes (before : F) (request : Request) (streams : Streams) (finished : Finished (FrontInput I) O) (after : F)
       : Type 0 where
     pub inputs : Inputs I
     pub between : F
     pub looked : Looks files source before request streams inputs between
+    pub hits : orders_hits request ≡ false
     pub ran : RunsInputs files source sink between (plan_seen request.plan) inputs finished after
+
+  -- a call is taken whose hits have to be put in order: its inputs were looked at, and then they were listed so
+  pub record TakesHits (before : F) (request : Request) (streams : Streams) (listed : Listed O) (after : F) : Type 0 where
+    pub inputs : Inputs I
+    pub between : F
+    pub looked : Looks files source before request streams inputs between
+    pub hits : orders_hits request ≡ true
+    pub lists : ListsInputs files sink source between (plan_seen request.plan) inputs listed after
+
+  -- what becomes of inputs whose hits have to be put in order
+  abbrev pub ListsTaken : F → PlanSeen → Inputs I → Answered I O → F → Type 0
+  ListsTaken before plan inputs (Took finished) after = ⊥
+  ListsTaken before plan inputs (Lists listed) after = ListsInputs files sink source before plan inputs listed after
+  ListsTaken before plan inputs (IsLeft left) after =
+      (after ≡ before) × (left.stream ≡ stream_among inputs.first inputs.second) × IsWhyOfHits left.why
 
   -- what becomes of a call, of whose stream as many bytes are kept as there is room for
   abbrev pub Answers : F → Request → Streams → ℕ → Answered I O → F → Type 0
   Answers before request streams room (Took finished) after = Takes before request streams finished after
+  Answers before request streams room (Lists listed) after = TakesHits before request streams listed after
   Answers before request streams room (IsLeft left) after = LeavesCall files source before request streams room left after

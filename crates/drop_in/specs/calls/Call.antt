@@ -17,7 +17,7 @@ use Rattle.bt_front.specs.model.Verdict.{names_seen, second_names, verdict_of}
 use Rattle.bt_tool.specs.model.Options.{PlanSeen}
 use Rattle.bt_tool.specs.model.Table.{Word}
 use Rattle.drop_in.specs.calls.Inputs.{HasText, files_of, front_files, front_source}
-use Rattle.drop_in.specs.calls.Whys.{IsWhyOfVerdict, orders_hits}
+use Rattle.drop_in.specs.calls.Whys.{IsWhyOfVerdict}
 use Rattle.drop_in.specs.declared.answering.Inputs.{Inputs}
 use Rattle.drop_in.specs.declared.front_files.FrontFiles.{FrontFiles}
 use Rattle.drop_in.specs.declared.front_files.FrontInput.{FrontInput}
@@ -35,10 +35,8 @@ use Rattle.drop_in.specs.declared.words.Request.{Request}
 abbrev pub asked_by : Request → Asked
 asked_by request = record { command = request.plan.command; is_sorted = request.is_sorted }
 
--- The call may be run here: no hits have to be put in order, and one of its inputs is a stream at most, which isn't the
--- genome file.
-pub record AreRunnable (request : Request) (streams : Streams) : Type 0 where
-  pub hits : orders_hits request ≡ false
+-- The call may be run here: one of its inputs is a stream at most, which isn't the genome file.
+pub record AreRunnable (streams : Streams) : Type 0 where
   pub genome : streams.genome ≡ false
   pub one : streams.first && streams.second ≡ false
 

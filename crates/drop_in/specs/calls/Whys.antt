@@ -16,7 +16,7 @@ use Rattle.bt_front.specs.declared.words.Asked.{Asked}
 use Rattle.bt_front.specs.model.Verdict.{have_common_order, lists_hits, verdict_of}
 use Rattle.drop_in.specs.declared.opening.Streams.{Streams}
 use Rattle.drop_in.specs.declared.why.Why.{Why}
-use Rattle.drop_in.specs.declared.why.Why.TheVariants.{GenomeStream, Hits, LongStream, NoMemory, Text, TwoStreams, Verdict, Zipped}
+use Rattle.drop_in.specs.declared.why.Why.TheVariants.{GenomeStream, LongStream, NoMemory, Text, TwoStreams, Verdict, Zipped}
 use Rattle.drop_in.specs.declared.words.Request.{Request}
 
 -- the hits of a record have to be put in order
@@ -24,10 +24,9 @@ abbrev pub orders_hits : Request → Bool
 orders_hits request = lists_hits request.plan.command && not request.is_sorted
 
 -- the script takes it, whatever is in the files
-pub data IsWhyOfScript (request : Request) (streams : Streams) : Why → Type 0 where
-  of_hits : orders_hits request ≡ true → IsWhyOfScript request streams Hits
-  of_genome : streams.genome ≡ true → IsWhyOfScript request streams GenomeStream
-  of_two : streams.first && streams.second ≡ true → IsWhyOfScript request streams TwoStreams
+pub data IsWhyOfScript (streams : Streams) : Why → Type 0 where
+  of_genome : streams.genome ≡ true → IsWhyOfScript streams GenomeStream
+  of_two : streams.first && streams.second ≡ true → IsWhyOfScript streams TwoStreams
 
 -- no order of chromosomes is found that fits the inputs, or there is no memory for it
 pub data IsWhyOfOrder (one : Survey) (other : Option Survey) : Why → Type 0 where

@@ -1,0 +1,7 @@
+-- Lemmas by theme.
+pub mod Bins
+pub mod Ending
+pub mod Listing
+pub mod Meeting
+pub mod Reading
+pub mod Writing

@@ -1,0 +1,2 @@
+-- What calls do, as contracts say it.
+pub mod Listing

@@ -1,0 +1,2 @@
+-- What one has to believe: the definitions that the report names.
+pub mod Bins
