@@ -78,7 +78,10 @@ judge_words() {
     [ -z "$dk_why" ] || return
     case $dk_command$dk_words in
     *' -held '*) return ;; # which bedtools only refuses
-    intersect*) ! lists_hits || { dk_why='bedtools orders the hits of a record otherwise; -sorted orders them'; return; } ;;
+    intersect*)
+        ! lists_hits || dk_why='bedtools orders the hits of a record otherwise; -sorted orders them'
+        [ -z "$dk_why" ] || return
+        ;;
     merge*' -s '*) dk_why='merge -s of bedtools leaves overlaps and another order'; return ;;
     complement*' -i '* | merge*) ;;
     complement*) dk_why='bedtools needs -i'; return ;;

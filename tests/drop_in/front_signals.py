@@ -125,7 +125,7 @@ def try_unreadable(place, folder, count):
                  shell("bedtools merge < .", folder, alone))
     lost = "dunekettle: a stream is lost: it cannot be read, or TMPDIR has no room for it\n"
     count.expect("a stream that can't be copied", (b"", lost, 1),
-                 shell("bedtools intersect -wo -a - -b f.bed < .", folder, alone))
+                 shell("bedtools intersect -u -a - -b <(cat f.bed) < .", folder, alone))
 
 
 def try_signals(place, folder, count):

@@ -1,5 +1,10 @@
 //! What bedtools 2.30.0 writes of two texts without `-sorted`, by each shape and each rule of what hits a record.
 
+ghost use Rattle.std.specs.Prelude.{◌≡◌, IfOk};
+ghost use Rattle.bt_bed.specs.calls.Orders.{ArePlaced};
+ghost use Rattle.bt_bed.specs.model.Feature.{intervals_of};
+ghost use Rattle.bt_hits.specs.calls.Listing.{has_line_each};
+
 use crate::{BothRecords, Listing, Unread, list_hits, records_of};
 use bt_bed::{ByteOrder, ChromOrder, Rec};
 use bt_lines::{Fault, Kind, ScriptSink};
@@ -201,11 +206,23 @@ fn rule(billionths: u64, both: bool, same_strand: bool) -> HitRule {
     }
 }
 
-fn read<O: ChromOrder>(alloc: Global, order: &O, text: &[u8]) -> Result<VecDeque<Rec>, Fail> {
+fn read<O: ChromOrder>(alloc: Global, order: &O, text: &[u8]) -> Result<VecDeque<Rec>, Fail>
+    ensures { IfOk result (λ records. ArePlaced (O.order order.now) (intervals_of records.items)) }
+{
     match records_of(alloc, order, text) {
         Ok(records) => Ok(records),
         Err(_) => Err(Fail::from("the records of a text")),
     }
+}
+
+// Whether a shape has a line for each hit.
+fn has_lines(shape: Shape) -> bool
+    ensures { result ≡ has_line_each shape }
+{
+    matches!(
+        shape,
+        Shape::Cut | Shape::OrigA | Shape::CutAndB | Shape::OrigBoth | Shape::Overlap
+    )
 }
 
 // Lists the hits of both texts into a sink that takes at most this many bytes.
@@ -214,6 +231,9 @@ fn list(
     listing: Listing,
     good: Option<usize>,
 ) -> Result<(Option<Fault>, ScriptSink), Fail> {
+    if !has_lines(listing.shape) {
+        return Err(Fail::from("a shape without lines"));
+    }
     let records = BothRecords {
         first: read(alloc, &ByteOrder, FIRST)?,
         second: read(alloc, &ByteOrder, SECOND)?,
