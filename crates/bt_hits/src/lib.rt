@@ -11,9 +11,13 @@
 //!
 //! ```text
 //! fn smallest_bins_first(rt: HostRuntime) -> Result<(), Fail> {
-//!     let first = records_of(rt.alloc(), &ByteOrder, b"chr1\t50\t90\n").ok().ok_or("records")?;
+//!     let first = records_of(rt.alloc(), &ByteOrder, b"chr1\t50\t90\n")
+//!         .ok()
+//!         .ok_or("records")?;
 //!     let text = b"chr1\t0\t20000\tlong\nchr1\t60\t70\tshort\n";
-//!     let second = records_of(rt.alloc(), &ByteOrder, text).ok().ok_or("records")?;
+//!     let second = records_of(rt.alloc(), &ByteOrder, text)
+//!         .ok()
+//!         .ok_or("records")?;
 //!     let (shape, rule) = (Shape::OrigBoth, HitRule::any_overlap());
 //!     let (listing, records) = (Listing { shape, rule }, BothRecords { first, second });
 //!     let sink = ScriptSink::new(rt.alloc(), 7, None);
