@@ -5,16 +5,17 @@ ghost use Rattle.bt_tool.specs.calls.Plan.{plan_seen};
 ghost use Rattle.bt_front.specs.model.Verdict.{has_survey, lists_hits, names_seen, second_names, verdict_of};
 ghost use Rattle.bt_front.specs.model.Fitting.{common_names, order_text as text_of_order};
 ghost use Rattle.drop_in.specs.calls.Answer.{Answers, ListsTaken, LeavesCall, LeavesFiles, LeavesOpened, LeavesStreams, Looks, LooksAtOpened, SeesInputs};
-ghost use Rattle.drop_in.specs.calls.Call.{AreReady, AreRunnable, IsLeftByVerdict, IsOrder, IsTaken, Reads, RunsInputs, entries_if, plan_by, reading_if, stream_among, survey_if};
+ghost use Rattle.drop_in.specs.calls.Call.{AreReady, AreRunnable, IsLeftByVerdict, IsOrder, IsTaken, Reads, RunsInputs, entries_if, plan_by, reading_if, stream_among, stream_of, survey_if};
 ghost use Rattle.drop_in.specs.calls.Looks.{LeavesIfFile, LeavesInput, LeavesInputIf, LeavesOther, ReadsGenomeIf, SeesFiles, SeesIfFile, SeesInput, SeesInputIf, SeesOther};
-ghost use Rattle.drop_in.specs.calls.Whys.{IsWhyOfOrder, IsWhyOfScript, IsWhyOfVerdict};
+ghost use Rattle.drop_in.specs.calls.Whys.{IsWhyOfOrder, IsWhyOfWays, IsWhyOfVerdict};
 ghost use Rattle.bt_lines.specs.declared.fault.Input.TheVariants.{Second};
 
 use crate::front_files::{FrontFiles, FrontInput};
 use crate::genome_file::{GenomeFile, read_genome};
+use crate::gzip::look_at_gzip;
 use crate::hits::{Listed, list_inputs};
 use crate::looks::{Left, ReadStream, Reading, Seen, look_at_file, look_at_stream};
-use crate::opening::{CallInputs, FileOrStream, OpenedFile, OpenedFiles, Streams, open_all};
+use crate::opening::{CallInputs, FileOrStream, OpenedFiles, OpenedInput, Ways, open_all};
 use crate::why::Why;
 use crate::words::Request;
 use bt_bed::Genome;
@@ -49,13 +50,13 @@ pub fn answer<I: Source + Drop, F: Files<Input = I>>(
     alloc: Global,
     files: F,
     request: Request,
-    streams: Streams,
+    ways: Ways<'_>,
     room: usize,
 ) -> (Answered<I, F::Output>, F)
-    ensures { Answers F.Files I.Source F.Output.Sink files request streams room result.0 result.1 }
+    ensures { Answers F.Files I.Source F.Output.Sink files request ways room result.0 result.1 }
 {
     let mut files = files;
-    match look(alloc, &mut files, &request, streams, room) {
+    match look(alloc, &mut files, &request, ways, room) {
         Ok(inputs) => {
             if request.orders_hits() {
                 return list_taken(alloc, files, &request.plan, inputs, room);
@@ -146,6 +147,7 @@ fn input_of<I: Drop>(reading: Reading<I>) -> FrontInput<I>
     match reading {
         Reading::File(input) => FrontInput::Opened(input),
         Reading::Stream(stream) => FrontInput::kept(stream.kept),
+        Reading::Text(text) => FrontInput::kept(text),
     }
 }
 
@@ -154,16 +156,16 @@ fn look<F: Files>(
     alloc: Global,
     files: &mut F,
     request: &Request,
-    streams: Streams,
+    ways: Ways<'_>,
     room: usize,
 ) -> Result<Inputs<F::Input>, Left<F::Input>>
-    ensures looks { IfOk result (λ inputs. Looks F.Files F.Input.Source files.old request.now streams inputs files.new) }
-    ensures leaves { IfErr result (λ left. LeavesCall F.Files F.Input.Source files.old request.now streams room left files.new) }
+    ensures looks { IfOk result (λ inputs. Looks F.Files F.Input.Source files.old request.now ways inputs files.new) }
+    ensures leaves { IfErr result (λ left. LeavesCall F.Files F.Input.Source files.old request.now ways room left files.new) }
 {
-    if let Some(why) = script_why(streams) {
+    if let Some(why) = ways_why(ways) {
         return Err(Left { why, stream: None });
     }
-    let opened = match open_all(files, &request.plan, streams) {
+    let opened = match open_all(files, &request.plan, ways) {
         Ok(opened) => opened,
         Err(why) => return Err(Left { why, stream: None }),
     };
@@ -173,14 +175,14 @@ fn look<F: Files>(
     }
 }
 
-// Why the script takes the call.
-fn script_why(streams: Streams) -> Option<Why>
-    ensures runnable { IfNone result (AreRunnable streams) }
-    ensures why { IfSome result (IsWhyOfScript streams) }
+// Why the ways in which its inputs come leave the call.
+fn ways_why(ways: Ways<'_>) -> Option<Why>
+    ensures runnable { IfNone result (AreRunnable ways) }
+    ensures why { IfSome result (IsWhyOfWays ways) }
 {
-    if streams.genome {
+    if ways.genome {
         Some(Why::GenomeStream)
-    } else if streams.first && streams.second {
+    } else if ways.first.is_stream() && ways.second.is_stream() {
         Some(Why::TwoStreams)
     } else {
         None
@@ -203,7 +205,7 @@ fn look_at_opened<F: Files>(
         Ok(genome) => genome,
         Err(why) => return Err(Left { why, stream: None }),
     };
-    let looked = match look_at_files(alloc, inputs) {
+    let looked = match look_at_files(alloc, inputs, room) {
         Ok(looked) => looked,
         Err(why) => return Err(Left { why, stream: None }),
     };
@@ -234,17 +236,18 @@ fn genome_of<I: Source + Drop>(alloc: Global, opened: Option<I>) -> Result<Optio
 // Looks at the inputs that are files.
 fn look_at_files<I: Source + Drop>(
     alloc: Global,
-    inputs: CallInputs<OpenedFile<I>>,
+    inputs: CallInputs<OpenedInput<I>>,
+    room: usize,
 ) -> Result<CallInputs<Seen<I>>, Why>
     ensures sees { IfOk result (SeesFiles I.Source inputs) }
-    ensures leaves { IfErr result (LeavesFiles I.Source inputs) }
+    ensures leaves { IfErr result (LeavesFiles I.Source inputs room) }
 {
     let CallInputs { first, second } = inputs;
-    let first = match look_if_file(alloc, first, Input::First) {
+    let first = match look_if_file(alloc, first, Input::First, room) {
         Ok(first) => first,
         Err(why) => return Err(why),
     };
-    match look_at_other(alloc, second) {
+    match look_at_other(alloc, second, room) {
         Ok(second) => Ok(CallInputs { first, second }),
         Err(why) => Err(why),
     }
@@ -253,13 +256,14 @@ fn look_at_files<I: Source + Drop>(
 // Looks at the second input, if there is one and it's a file.
 fn look_at_other<I: Source + Drop>(
     alloc: Global,
-    opened: Option<FileOrStream<OpenedFile<I>>>,
+    opened: Option<FileOrStream<OpenedInput<I>>>,
+    room: usize,
 ) -> Result<Option<FileOrStream<Seen<I>>>, Why>
     ensures sees { IfOk result (SeesOther I.Source opened) }
-    ensures leaves { IfErr result (LeavesOther I.Source opened Second) }
+    ensures leaves { IfErr result (LeavesOther I.Source opened Second room) }
 {
     match opened {
-        Some(opened) => match look_if_file(alloc, opened, Input::Second) {
+        Some(opened) => match look_if_file(alloc, opened, Input::Second, room) {
             Ok(seen) => Ok(Some(seen)),
             Err(why) => Err(why),
         },
@@ -270,17 +274,24 @@ fn look_at_other<I: Source + Drop>(
 // Looks at an input if it's a file.
 fn look_if_file<I: Source + Drop>(
     alloc: Global,
-    opened: FileOrStream<OpenedFile<I>>,
+    opened: FileOrStream<OpenedInput<I>>,
     input: Input,
+    room: usize,
 ) -> Result<FileOrStream<Seen<I>>, Why>
     ensures sees { IfOk result (SeesIfFile I.Source opened) }
-    ensures leaves { IfErr result (LeavesIfFile I.Source opened input) }
+    ensures leaves { IfErr result (LeavesIfFile I.Source opened input room) }
 {
     match opened {
-        FileOrStream::File(file) => match look_at_file(alloc, file, input) {
+        FileOrStream::File(OpenedInput::File(file)) => match look_at_file(alloc, file, input) {
             Ok(seen) => Ok(FileOrStream::File(seen)),
             Err(why) => Err(why),
         },
+        FileOrStream::File(OpenedInput::Gzip(gzip)) => {
+            match look_at_gzip(alloc, gzip, input, room) {
+                Ok(seen) => Ok(FileOrStream::File(seen)),
+                Err(why) => Err(why),
+            }
+        }
         FileOrStream::Stream => Ok(FileOrStream::Stream),
     }
 }
@@ -403,11 +414,20 @@ pub fn stream_among<I: Drop>(first: Reading<I>, second: Option<Reading<I>>) -> O
 {
     match first {
         Reading::Stream(stream) => Some(stream),
-        Reading::File(_again) => match second {
-            Some(Reading::Stream(stream)) => Some(stream),
-            Some(Reading::File(_other)) => None,
-            None => None,
-        },
+        Reading::File(_again) => stream_of(second),
+        Reading::Text(_text) => stream_of(second),
+    }
+}
+
+// The stream of an input that a call may lack, if it is one.
+fn stream_of<I: Drop>(reading: Option<Reading<I>>) -> Option<ReadStream<I>>
+    ensures { result ≡ stream_of reading }
+{
+    match reading {
+        Some(Reading::Stream(stream)) => Some(stream),
+        Some(Reading::File(_again)) => None,
+        Some(Reading::Text(_text)) => None,
+        None => None,
     }
 }
 

@@ -118,6 +118,7 @@ fn keep<I: Source + Drop>(alloc: Global, reading: Reading<I>, room: usize) -> Op
             None => None,
         },
         Reading::Stream(stream) => Some(Kept::Stream(stream)),
+        Reading::Text(text) => Some(Kept::File(text)),
     }
 }
 
@@ -128,6 +129,7 @@ fn stream_of<I: Drop>(reading: Reading<I>) -> Option<ReadStream<I>>
     match reading {
         Reading::Stream(stream) => Some(stream),
         Reading::File(_file) => None,
+        Reading::Text(_text) => None,
     }
 }
 

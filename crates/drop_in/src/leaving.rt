@@ -1,8 +1,9 @@
-//! How a call is left to the bedtools on PATH, or to the drop-in of the shell.
+//! How a call is left to the bedtools on PATH, or to the drop-in of the shell; or how the text of a gzip file is asked for.
 
 use crate::line::Line;
 use crate::looks::ReadStream;
 use crate::original::Original;
+use crate::pipes::Pipes;
 use crate::system::{find_original, say, tell, warn};
 use crate::warning::Warning;
 use crate::why::{Taker, Why};
@@ -18,6 +19,8 @@ use std::io;
 pub struct Call<'c> {
     pub rt: &'c HostRuntime,
     pub words: &'c [String],
+    /// The pipes that came with it.
+    pub pipes: &'c Pipes,
 }
 
 /// Why a call is left, and the name of the input that is the cause.
@@ -41,7 +44,7 @@ impl Call<'_> {
     pub fn leave(&self, pipe: File, cause: Cause<'_>) -> u8 {
         let mut pipe = pipe;
         if matches!(cause.why.taker(self.is_coverage()), Taker::Shell) {
-            return self.said(&mut pipe, &Line::Shell);
+            return self.leave_to_shell(&mut pipe, cause);
         }
         match find_original(self.rt) {
             Original::Named(path) => {
@@ -49,8 +52,14 @@ impl Call<'_> {
                 self.warn(cause);
                 self.said(&mut pipe, &Line::Original(path.as_str()))
             }
-            Original::Missing | Original::Unclear => self.said(&mut pipe, &Line::Shell),
+            Original::Missing | Original::Unclear => self.leave_to_shell(&mut pipe, cause),
         }
+    }
+
+    /// Asks for the text of the gzip file that this word names.
+    pub fn ask_for_text(&self, pipe: File, word: usize) -> u8 {
+        let mut pipe = pipe;
+        self.said(&mut pipe, &Line::Zipped(word))
     }
 
     /// Leaves a call whose stream was read, and hands that on. If its first read failed, bedtools may try it too.
@@ -70,6 +79,16 @@ impl Call<'_> {
         match say(self.rt, &mut pipe, &Line::Stream(heir.word, heir.path)) {
             Ok(()) => hand_on(pipe, stream),
             Err(_) => 1,
+        }
+    }
+
+    // Leaves a call to the drop-in of the shell. A reason that would be two lines is said without its name.
+    fn leave_to_shell(&self, pipe: &mut File, cause: Cause<'_>) -> u8 {
+        match self.reason(cause) {
+            Some(reason) if !reason.as_str().contains('\n') => {
+                self.said(pipe, &Line::Shell(reason.as_str()))
+            }
+            _ => self.said(pipe, &Line::Shell(cause.why.text())),
         }
     }
 
@@ -104,11 +123,22 @@ impl Call<'_> {
 
     // Tells who takes the call and why.
     fn tell_cause(&self, path: &str, cause: Cause<'_>) {
-        let Cause { why, name, .. } = cause;
         let command = match self.words.first() {
             Some(word) => word.as_str(),
             None => "it",
         };
+        let Some(reason) = self.reason(cause) else {
+            return;
+        };
+        let reason = reason.as_str();
+        if let Ok(told) = format!(in self.rt.alloc(); "{path} takes {command}: {reason}") {
+            tell(self.rt, told.as_str());
+        }
+    }
+
+    // Why the call is left, in words, with the name of the input that is the cause.
+    fn reason(&self, cause: Cause<'_>) -> Option<String> {
+        let Cause { why, name, .. } = cause;
         let usage = match why {
             Why::Usage(usage) => self.usage_text(usage),
             _ => None,
@@ -117,14 +147,10 @@ impl Call<'_> {
             Some(text) => text.as_str(),
             None => why.text(),
         };
-        let told = if name.is_empty() {
-            format!(in self.rt.alloc(); "{path} takes {command}: {text}")
-        } else {
-            format!(in self.rt.alloc(); "{path} takes {command}: {name}: {text}")
-        };
-        if let Ok(told) = told {
-            tell(self.rt, told.as_str());
+        if name.is_empty() {
+            return self.own(text);
         }
+        format!(in self.rt.alloc(); "{name}: {text}").ok()
     }
 
     // The plan's own words for a fault of usage, but for help and other commands.

@@ -18,8 +18,10 @@ pub enum Line<'a> {
     /// The same, and the stream that was read comes behind the line. It replaces this word, counted from 1; 0 is standard
     /// input.
     Stream(usize, &'a str),
-    /// The drop-in of the shell, with the words as they came.
-    Shell,
+    /// Nobody yet: this word, counted from 1, is a gzip file, and the program is to be started again with its text.
+    Zipped(usize),
+    /// The drop-in of the shell, with the words as they came, for this reason.
+    Shell(&'a str),
 }
 
 impl Line<'_> {
@@ -30,7 +32,6 @@ impl Line<'_> {
         match self {
             Line::Begins => Vec::from_slice(alloc, b"r\n"),
             Line::Dunekettle => Vec::from_slice(alloc, b"d\n"),
-            Line::Shell => Vec::from_slice(alloc, b"t\n"),
             Line::Original(path) => {
                 let mut line = Vec::from_slice(alloc, b"o ")?;
                 line.extend_from_slice(path.as_bytes())?;
@@ -43,6 +44,19 @@ impl Line<'_> {
                 line.extend_from_slice(digits.format(*word).as_bytes())?;
                 line.extend_from_slice(b" ")?;
                 line.extend_from_slice(path.as_bytes())?;
+                line.extend_from_slice(b"\n")?;
+                Ok(line)
+            }
+            Line::Zipped(place) => {
+                let mut line = Vec::from_slice(alloc, b"z ")?;
+                let mut digits = Buffer::new();
+                line.extend_from_slice(digits.format(*place).as_bytes())?;
+                line.extend_from_slice(b"\n")?;
+                Ok(line)
+            }
+            Line::Shell(reason) => {
+                let mut line = Vec::from_slice(alloc, b"t ")?;
+                line.extend_from_slice(reason.as_bytes())?;
                 line.extend_from_slice(b"\n")?;
                 Ok(line)
             }

@@ -33,6 +33,8 @@ pub enum Reading<I> {
     File(I),
     /// A stream that was read to its end.
     Stream(ReadStream<I>),
+    /// The text of a gzip file, which was read to its end.
+    Text(Vec<u8>),
 }
 
 /// An input that was looked at.
@@ -80,8 +82,8 @@ fn file_why(input: Input, trouble: Trouble, has_failed: bool) -> Why
     }
 }
 
-// Why a text is left. If reading failed, and its source didn't, there was no memory.
-fn text_why(input: Input, trouble: Trouble, has_failed: bool) -> Why
+/// Why a text is left. If reading failed, and its source didn't, there was no memory.
+pub fn text_why(input: Input, trouble: Trouble, has_failed: bool) -> Why
     ensures { result ≡ text_why input trouble has_failed }
 {
     match trouble {

@@ -1,7 +1,9 @@
 //! `drop_in`: decides who takes a call of bedtools, and runs it if Dunekettle does.
 //!
-//! Its words are the number of a descriptor that is open for writing, and then those of the call. It writes a line there
-//! ([`line::Line`]). The script that is named `bedtools` starts it and reads that line.
+//! Its first word is the number of a descriptor that is open for writing; the others are those of the call. It writes a line
+//! there ([`line::Line`]). The script that is named `bedtools` starts it and reads that line. If the line asks for the text of
+//! a gzip file, the script starts it again: the first word then also has the descriptor on which that text comes
+//! ([`pipes::Pipes`]).
 //!
 //! Words:
 //!
@@ -16,9 +18,12 @@ mod answer_tests;
 mod answering;
 mod front_files;
 mod genome_file;
+mod gzip;
 mod hits;
 mod leaving;
 mod line;
+#[cfg(test)]
+mod line_tests;
 mod looks;
 mod marks;
 mod naming;
@@ -26,6 +31,7 @@ mod opening;
 mod original;
 #[cfg(test)]
 mod original_tests;
+mod pipes;
 mod programs;
 mod system;
 mod system_programs;
@@ -43,18 +49,19 @@ use bt_tool::Plan;
 use front_files::FrontInput;
 use hits::Listed;
 use leaving::{Call, Cause, Heir};
-use opening::Streams;
+use opening::Ways;
 use original::Original;
+use pipes::Pipes;
 use std::env::Env;
 use std::fs::File;
 use std::process::ExitCode;
 use std::{env, io};
-use system::{DropInFiles, find_original, fit_room, open_pipe, room, streams_of, writes_to_pipe};
+use system::{DropInFiles, find_original, fit_room, open_pipe, room, ways_of, writes_to_pipe};
 use system_programs::SystemPrograms;
 use versions::{is_for_any_version, is_known_version};
 use warning::Case;
 use why::Why;
-use words::{Request, option_of, stream_word};
+use words::{Request, name_place, option_of, stream_word};
 
 // The status of a run whose output has no reader any more.
 const GONE: u8 = 121;
@@ -71,32 +78,31 @@ fn main(rt: HostRuntime) -> ExitCode {
 
 // Opens the pipe for the line, and answers the call.
 fn start(rt: &HostRuntime) -> u8 {
-    let Ok(number) = descriptor(rt) else {
+    let Some(pipes) = given_pipes(rt) else {
         return 1;
     };
-    let Ok(pipe) = open_pipe(rt, number.as_str()) else {
+    let pipes = &pipes;
+    let Ok(pipe) = open_pipe(rt, pipes.line.as_str()) else {
         return 1;
     };
     match call_words(rt) {
         Ok(words) => {
             let words = words.as_slice();
-            answer_call(&Call { rt, words }, pipe)
+            answer_call(&Call { rt, words, pipes }, pipe)
         }
-        Err(_) => Call { rt, words: &[] }.leave(pipe, cause_of(Why::NotUnicode)),
+        Err(_) => {
+            let words = &[];
+            Call { rt, words, pipes }.leave(pipe, cause_of(Why::NotUnicode))
+        }
     }
 }
 
-// The number of the descriptor, the first word.
-fn descriptor(rt: &HostRuntime) -> io::Result<String> {
-    let mut block = [0u8; 16];
-    let Ok(count) = rt.arg(1, &mut block) else {
-        return Err(io::Error::from(io::ErrorKind::NotFound));
-    };
-    let mut number = String::new(rt.alloc());
-    for byte in &block[..count] {
-        number.push(char::from(*byte))?;
-    }
-    Ok(number)
+// The pipes that the first word gives.
+fn given_pipes(rt: &HostRuntime) -> Option<Pipes> {
+    let mut block = [0u8; 64];
+    let count = rt.arg(1, &mut block).ok()?;
+    let word = str::from_utf8(&block[..count]).ok()?;
+    Pipes::of(rt.alloc(), word)
 }
 
 // The words after it.
@@ -122,15 +128,15 @@ fn answer_call(call: &Call<'_>, pipe: File) -> u8 {
         Ok(request) => request,
         Err(why) => return call.leave(pipe, cause_of(why)),
     };
-    let streams = streams_of(call.rt, &request.plan);
+    let ways = ways_of(call.rt, call.words, &request.plan, call.pipes);
     if let Some(why) = why_unknown(call.rt, &request) {
         return call.leave(pipe, cause_of(why));
     }
-    if !streams.first && !streams.second {
-        return answer_files(call, pipe, request, streams);
+    if !ways.first.is_stream() && !ways.second.is_stream() {
+        return answer_files(call, pipe, request, ways);
     }
     match find_original(call.rt) {
-        Original::Named(path) => answer_stream(call, pipe, request, streams, path.as_str()),
+        Original::Named(path) => answer_stream(call, pipe, request, ways, path.as_str()),
         Original::Missing | Original::Unclear => call.leave(pipe, cause_of(Why::NoOriginal)),
     }
 }
@@ -150,62 +156,66 @@ fn why_unknown(rt: &HostRuntime, request: &Request) -> Option<Why> {
 }
 
 // Answers a call without a stream.
-fn answer_files(call: &Call<'_>, pipe: File, request: Request, streams: Streams) -> u8 {
+fn answer_files(call: &Call<'_>, pipe: File, request: Request, ways: Ways<'_>) -> u8 {
     let Ok(names) = InputNames::of(call.rt, &request) else {
         return call.leave(pipe, cause_of(Why::NoMemory));
     };
     let Some(room) = room(call.rt) else {
         return call.leave(pipe, cause_of(Why::Room));
     };
-    if request.orders_hits() && !fit_room(call.rt, &request.plan, room) {
+    if request.orders_hits() && !fit_room(call.rt, &request.plan, ways, room) {
         return call.leave(pipe, cause_of(Why::HitsRoom));
     }
     let files = DropInFiles {
         system: SystemFiles { rt: call.rt },
         pipe,
+        pipes: call.pipes,
         command: request.plan.command.name(),
     };
-    let (answered, files) = answer(call.rt.alloc(), files, request, streams, room);
+    let (answered, files) = answer(call.rt.alloc(), files, request, ways, room);
     match answered {
         Answered::Took(finished) => end(call.rt, finished),
         Answered::Listed(listed) => end_listed(call.rt, listed),
-        Answered::Left(left) => call.leave(files.pipe, names.cause(left.why)),
+        Answered::Left(left) => leave_files(call, &names, files.pipe, left.why),
     }
 }
 
 // Answers a call with a stream, which the bedtools of this path gets if it takes it.
-fn answer_stream(
-    call: &Call<'_>,
-    pipe: File,
-    request: Request,
-    streams: Streams,
-    path: &str,
-) -> u8 {
+fn answer_stream(call: &Call<'_>, pipe: File, request: Request, ways: Ways<'_>, path: &str) -> u8 {
     let Some(room) = room(call.rt) else {
         return call.leave(pipe, cause_of(Why::Room));
     };
     let Ok(names) = InputNames::of(call.rt, &request) else {
         return call.leave(pipe, cause_of(Why::NoMemory));
     };
-    let Some(word) = word_of(call.words, &request.plan, streams.second) else {
+    let Some(word) = word_of(call.words, &request.plan, ways.second.is_stream()) else {
         return call.leave(pipe, cause_of(Why::NoWord));
     };
     let files = DropInFiles {
         system: SystemFiles { rt: call.rt },
         pipe,
+        pipes: call.pipes,
         command: request.plan.command.name(),
     };
-    let (answered, files) = answer(call.rt.alloc(), files, request, streams, room);
+    let (answered, files) = answer(call.rt.alloc(), files, request, ways, room);
     match answered {
         Answered::Took(finished) => end(call.rt, finished),
         Answered::Listed(listed) => end_listed(call.rt, listed),
-        Answered::Left(left) => {
-            let cause = names.cause(left.why);
-            match left.stream {
-                Some(stream) => call.leave_stream(files.pipe, cause, Heir { path, word }, stream),
-                None => call.leave(files.pipe, cause),
+        Answered::Left(left) => match left.stream {
+            Some(stream) => {
+                let heir = Heir { path, word };
+                call.leave_stream(files.pipe, names.cause(left.why), heir, stream)
             }
-        }
+            None => leave_files(call, &names, files.pipe, left.why),
+        },
+    }
+}
+
+// Leaves a call of which no stream was read; or asks for the text of its gzip file, if a word names that.
+fn leave_files(call: &Call<'_>, names: &InputNames, pipe: File, why: Why) -> u8 {
+    match names.zipped_word(call.words, why) {
+        Some(word) => call.ask_for_text(pipe, word),
+        None => call.leave(pipe, names.cause(why)),
     }
 }
 
@@ -239,6 +249,16 @@ impl InputNames {
             why,
             name: self.about(why),
             warning: self.case.warning(why),
+        }
+    }
+
+    // The word that names the cause, if that is a gzip file.
+    fn zipped_word(&self, words: &[String], why: Why) -> Option<usize> {
+        match why {
+            Why::Zipped(input) => {
+                name_place(words, option_of(self.case.command, input), self.about(why))
+            }
+            _ => None,
         }
     }
 

@@ -1,13 +1,16 @@
-//! What the system has: streams, the pipe for the line, the environment.
+//! What the system has: streams, pipes, the environment.
 
 ghost use Rattle.std.specs.Prelude.{⊤};
 
 use crate::line::Line;
 use crate::naming::is_stream_name;
-use crate::opening::Streams;
+use crate::opening::{Way, Ways};
 use crate::original::Original;
+use crate::pipes::Pipes;
 use crate::system_programs::SystemPrograms;
+use crate::words::{name_place, option_of};
 use bt_files::{Files, Opened, Output, SystemFiles, Unopened};
+use bt_lines::Input;
 use bt_tool::Plan;
 use std::fs::{File, OpenOptions};
 use std::io::Write;
@@ -17,11 +20,9 @@ use std::{env, fs, io};
 /// How many bytes of a stream are kept if DUNEKETTLE_ROOM doesn't say it.
 const ROOM: usize = 67_108_864;
 
-/// Opens the pipe of the descriptor that has this number, to write to it.
-pub fn open_pipe(rt: &HostRuntime, number: &str) -> io::Result<File> {
-    let mut name = String::from_str(rt.alloc(), "/dev/fd/")?;
-    name.push_str(number)?;
-    OpenOptions::new().write(true).open(rt, name.as_str())
+/// Opens a pipe to write to it.
+pub fn open_pipe(rt: &HostRuntime, name: &str) -> io::Result<File> {
+    OpenOptions::new().write(true).open(rt, name)
 }
 
 /// Writes the line.
@@ -38,14 +39,22 @@ pub fn room(rt: &HostRuntime) -> Option<usize> {
     }
 }
 
-/// Whether the inputs of a plan that are files fit the room, both together.
-pub fn fit_room(rt: &HostRuntime, plan: &Plan, room: usize) -> bool {
-    let first = size_of(rt, plan.first.as_str());
+/// Whether the inputs of a plan that are files fit the room, both together. The text of a gzip file may be as long as the room.
+pub fn fit_room(rt: &HostRuntime, plan: &Plan, ways: Ways<'_>, room: usize) -> bool {
+    let first = size_if_file(rt, plan.first.as_str(), ways.first);
     let second = match &plan.second {
-        Some(second) => size_of(rt, second.as_str()),
+        Some(second) => size_if_file(rt, second.as_str(), ways.second),
         None => 0,
     };
     first.saturating_add(second) <= room as u64
+}
+
+// How many bytes an input has; of the text of a gzip file it isn't known.
+fn size_if_file(rt: &HostRuntime, name: &str, way: Way<'_>) -> u64 {
+    match way {
+        Way::Unzipped(_) => 0,
+        Way::File | Way::Stream => size_of(rt, name),
+    }
 }
 
 // How many bytes a file has; of what is no file it isn't known.
@@ -56,19 +65,42 @@ fn size_of(rt: &HostRuntime, name: &str) -> u64 {
     }
 }
 
-/// Which inputs of a plan are streams.
-pub fn streams_of(rt: &HostRuntime, plan: &Plan) -> Streams {
-    Streams {
-        genome: is_stream_if_named(rt, &plan.genome),
-        first: is_stream(rt, plan.first.as_str()),
-        second: is_stream_if_named(rt, &plan.second),
+/// How the inputs of a plan come, whose words these are.
+pub fn ways_of<'p>(rt: &HostRuntime, words: &[String], plan: &Plan, pipes: &'p Pipes) -> Ways<'p> {
+    let first = plan.first.as_str();
+    let option = option_of(plan.command, Input::First);
+    let first_text = text_pipe(words, option, first, pipes);
+    Ways {
+        genome: match &plan.genome {
+            Some(genome) => is_stream(rt, genome.as_str()),
+            None => false,
+        },
+        first: way_of(rt, first, first_text),
+        second: match &plan.second {
+            Some(second) => {
+                let second = second.as_str();
+                let option = option_of(plan.command, Input::Second);
+                way_of(rt, second, text_pipe(words, option, second, pipes))
+            }
+            None => Way::File,
+        },
     }
 }
 
-fn is_stream_if_named(rt: &HostRuntime, name: &Option<String>) -> bool {
-    match name {
-        Some(name) => is_stream(rt, name.as_str()),
-        None => false,
+// The pipe on which the text of the input comes that is the value of this option, if one does.
+fn text_pipe<'p>(words: &[String], option: &str, name: &str, pipes: &'p Pipes) -> Option<&'p str> {
+    match name_place(words, option, name) {
+        Some(place) => pipes.text_of(place),
+        None => None,
+    }
+}
+
+// How an input of this name comes, whose text may come on a pipe.
+fn way_of<'p>(rt: &HostRuntime, name: &str, text: Option<&'p str>) -> Way<'p> {
+    match text {
+        Some(pipe) => Way::Unzipped(pipe),
+        None if is_stream(rt, name) => Way::Stream,
+        None => Way::File,
     }
 }
 
@@ -156,6 +188,7 @@ fn open_told(rt: &HostRuntime, name: &str) -> io::Result<File> {
 pub struct DropInFiles<'r> {
     pub system: SystemFiles<'r>,
     pub pipe: File,
+    pub pipes: &'r Pipes,
     pub command: &'static str,
 }
 
@@ -170,9 +203,10 @@ impl Files for DropInFiles<'_> {
 
     ghost refuses = { λ before name after. ⊤ };
 
-    // Before a stream is opened the line begins: from then on the shell doesn't take the call any more.
+    // Before a stream is opened the line begins: from then on the shell doesn't take the call any more. The text of a gzip
+    // file is no stream of the call.
     fn open(&mut self, name: &str) -> Result<Opened, Unopened> {
-        if is_stream(self.system.rt, name) {
+        if is_stream(self.system.rt, name) && !self.pipes.has_text(name) {
             let _ = say(self.system.rt, &mut self.pipe, &Line::Begins);
         }
         self.system.open(name)

@@ -31,7 +31,7 @@ pub enum Why {
     NulInGenome,
     /// The verdict on the inputs.
     Verdict(Reason),
-    /// It converts alignments.
+    /// It converts alignments, in which bedtools is as quick.
     Alignments,
     /// It is a form of `genomecov` that isn't run here.
     CoverageForm,
@@ -55,6 +55,10 @@ pub enum Why {
     LongStream,
     /// An input that is a file begins as a gzip file.
     Zipped(Input),
+    /// The text of a gzip file isn't whole, or it has more bytes than there is room for.
+    Unzip(Input),
+    /// A gzip file has several parts, of which bedtools may read the first alone.
+    Parts(Input),
 }
 
 /// Who takes a call that isn't run here.
@@ -73,15 +77,7 @@ impl Why {
             Why::Verdict(Reason::NotByGenome) if is_coverage => Taker::Shell,
             Why::Verdict(Reason::EmptyNotLast | Reason::ManyRecords) => Taker::Shell,
             Why::Words(WordReason::ZerosOfStrand) => Taker::Shell,
-            Why::Alignments
-            | Why::CoverageForm
-            | Why::Limit
-            | Why::TwoStreams
-            | Why::GenomeStream
-            | Why::NoOriginal
-            | Why::NoWord
-            | Why::Room
-            | Why::Zipped(_) => Taker::Shell,
+            Why::CoverageForm | Why::Limit | Why::NoOriginal => Taker::Shell,
             _ => Taker::Original,
         }
     }
@@ -89,7 +85,11 @@ impl Why {
     /// The input that it is about.
     pub fn input(self) -> Option<Input> {
         match self {
-            Why::Unopened(input) | Why::Text(input, _) | Why::Zipped(input) => Some(input),
+            Why::Unopened(input)
+            | Why::Text(input, _)
+            | Why::Zipped(input)
+            | Why::Unzip(input)
+            | Why::Parts(input) => Some(input),
             Why::Genome(_) | Why::TabInComment | Why::NulInGenome | Why::GenomeStream => Some(
                 Input::Genome,
             ),
@@ -112,7 +112,7 @@ impl Why {
             Why::TabInComment => "a comment has a tab",
             Why::NulInGenome => "a line has a NUL",
             Why::Verdict(reason) => verdict_text(reason),
-            Why::Alignments => "it converts alignments",
+            Why::Alignments => "bedtools is as quick: BAM has to be made text first",
             Why::CoverageForm => "it is a form of genomecov that awk makes",
             Why::Limit => "it limits the records that are held",
             Why::HitsRoom => "its inputs don't fit DUNEKETTLE_ROOM, in which hits are put in order",
@@ -124,6 +124,8 @@ impl Why {
             Why::LongStream => "its stream is long",
             Why::Room => "DUNEKETTLE_ROOM is no number",
             Why::Zipped(_) => "it begins as a gzip file",
+            Why::Unzip(_) => "gzip fails, or its text doesn't fit DUNEKETTLE_ROOM",
+            Why::Parts(_) => "it is a gzip file of several parts",
         }
     }
 }

@@ -3,7 +3,7 @@
 ghost use Rattle.std.specs.Prelude.{◌≡◌, ◌-◌, ◌≤◌, Err, IfSome, Some, slice_get};
 ghost use Rattle.bt_tool.specs.calls.Plan.{words_seen};
 ghost use Rattle.bt_tool.specs.model.Options.{options};
-ghost use Rattle.drop_in.specs.calls.Words.{IsStreamWord, IsWhyOfWords, command_why, names_command, option_of};
+ghost use Rattle.drop_in.specs.calls.Words.{IsStreamWord, IsValueOf, IsWhyOfWords, command_why, names_command, option_of};
 
 use crate::naming::is_of_standard_input;
 use crate::why::Why;
@@ -133,14 +133,10 @@ pub fn value_place(words: &[String], option: &str) -> Option<usize>
     None
 }
 
-/// The word of a call that its stream replaces, counted from 1: the value of this option, which is the stream's name. It's 0
-/// if the name is that of standard input, so that the words stay as they are.
-pub fn stream_word(words: &[String], option: &str, name: &str) -> Option<usize>
-    ensures { IfSome result (IsStreamWord (words_seen words.now) option.now name.now) }
+/// The word of a call that names an input, counted from 1: the value of this option, which is the input's name.
+pub fn name_place(words: &[String], option: &str, name: &str) -> Option<usize>
+    ensures { IfSome result (IsValueOf (words_seen words.now) option.now name.now) }
 {
-    if is_of_standard_input(name) {
-        return Some(0);
-    }
     let Some(place) = value_place(words, option) else {
         return None;
     };
@@ -150,6 +146,20 @@ pub fn stream_word(words: &[String], option: &str, name: &str) -> Option<usize>
     }
     let value = words[at].as_str();
     if value == name { Some(place) } else { None }
+}
+
+/// The word of a call that its stream replaces, counted from 1: the value of this option, which is the stream's name. It's 0
+/// if the name is that of standard input, so that the words stay as they are.
+pub fn stream_word(words: &[String], option: &str, name: &str) -> Option<usize>
+    ensures { IfSome result (IsStreamWord (words_seen words.now) option.now name.now) }
+{
+    if is_of_standard_input(name) {
+        return Some(0);
+    }
+    match name_place(words, option, name) {
+        Some(place) => Some(place),
+        None => None,
+    }
 }
 
 // Whether a word is an option whose value is the next word.

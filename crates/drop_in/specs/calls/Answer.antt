@@ -11,7 +11,7 @@ use Rattle.drop_in.specs.calls.Call.{AreRunnable, IsLeftByVerdict, IsTaken, Runs
 use Rattle.drop_in.specs.calls.Hits.{IsWhyOfHits, ListsInputs}
 use Rattle.drop_in.specs.calls.Looks.{LeavesIfFile, LeavesInput, LeavesInputIf, LeavesOther, ReadsGenomeIf, SeesFiles, SeesIfFile, SeesInput, SeesInputIf}
 use Rattle.drop_in.specs.calls.Opening.{CannotOpen, OpensAll}
-use Rattle.drop_in.specs.calls.Whys.{IsWhyOfScript, orders_hits}
+use Rattle.drop_in.specs.calls.Whys.{IsWhyOfWays, orders_hits}
 use Rattle.drop_in.specs.declared.answering.Answered.{Answered}
 use Rattle.drop_in.specs.declared.answering.Answered.TheVariants.{Left as IsLeft, Listed as Lists, Took}
 use Rattle.drop_in.specs.declared.answering.Inputs.{Inputs}
@@ -22,18 +22,18 @@ use Rattle.drop_in.specs.declared.looks.Left.{Left}
 use Rattle.drop_in.specs.declared.looks.Seen.{Seen}
 use Rattle.drop_in.specs.declared.opening.CallInputs.{CallInputs}
 use Rattle.drop_in.specs.declared.opening.FileOrStream.{FileOrStream}
-use Rattle.drop_in.specs.declared.opening.OpenedFile.{OpenedFile}
+use Rattle.drop_in.specs.declared.opening.OpenedInput.{OpenedInput}
 use Rattle.drop_in.specs.declared.opening.OpenedFiles.{OpenedFiles}
-use Rattle.drop_in.specs.declared.opening.Streams.{Streams}
+use Rattle.drop_in.specs.declared.opening.Ways.{Ways}
 use Rattle.drop_in.specs.declared.why.Why.{Why}
 use Rattle.drop_in.specs.declared.words.Request.{Request}
 
 module _ {I : Type 0} (source : Source I) where
   -- the first of the files whose text leaves the call
-  pub data LeavesFiles (opened : CallInputs (OpenedFile I)) (why : Why) : Type 0 where
-    of_first : LeavesIfFile source opened.first First why → LeavesFiles opened why
+  pub data LeavesFiles (opened : CallInputs (OpenedInput I)) (room : ℕ) (why : Why) : Type 0 where
+    of_first : LeavesIfFile source opened.first First room why → LeavesFiles opened room why
     of_second : (seen : FileOrStream (Seen I)) → SeesIfFile source opened.first seen
-        → LeavesOther source opened.second Second why → LeavesFiles opened why
+        → LeavesOther source opened.second Second room why → LeavesFiles opened room why
 
 module _ {F I O : Type 0} (files : Files F I O) (source : Source I) where
   -- all inputs were looked at: the stream too, after the files
@@ -70,7 +70,7 @@ module _ {F I O : Type 0} (files : Files F I O) (source : Source I) where
     by_genome : left.stream ≡ None → after ≡ before → is_some opened.genome ≡ true
         → LeavesOpened before request opened room left after
     by_file : (given : Option GenomeFile) → left.stream ≡ None → after ≡ before → ReadsGenomeIf source opened.genome given
-        → LeavesFiles source opened.inputs left.why → LeavesOpened before request opened room left after
+        → LeavesFiles source opened.inputs room left.why → LeavesOpened before request opened room left after
     by_stream : (given : Option GenomeFile) (looked : CallInputs (Seen I)) → ReadsGenomeIf source opened.genome given
         → SeesFiles source opened.inputs looked → LeavesStreams before (plan_seen request.plan).names looked room left after
         → LeavesOpened before request opened room left after
@@ -80,42 +80,42 @@ module _ {F I O : Type 0} (files : Files F I O) (source : Source I) where
         → IsLeftByVerdict (asked_by request) given first second left → LeavesOpened before request opened room left after
 
   -- The inputs of a call were looked at, once all its files were opened, and the verdict takes it with these inputs.
-  pub record Looks (before : F) (request : Request) (streams : Streams) (inputs : Inputs I) (after : F) : Type 0 where
-    pub runnable : AreRunnable streams
+  pub record Looks (before : F) (request : Request) (ways : Ways) (inputs : Inputs I) (after : F) : Type 0 where
+    pub runnable : AreRunnable ways
     pub opened : OpenedFiles I
     pub between : F
-    pub opens : OpensAll files before (plan_seen request.plan).names streams opened between
+    pub opens : OpensAll files before (plan_seen request.plan).names ways opened between
     pub looks : LooksAtOpened between request opened inputs after
 
-  -- It is left: to the script, whatever is in the files; or a file can't be opened; or once all were opened, for what they are;
+  -- It is left: for the ways in which its inputs come, whatever is in the files; or a file can't be opened; or once all were opened, for what they are;
   -- or its hits can't be listed, though the verdict takes it.
-  pub data LeavesCall (before : F) (request : Request) (streams : Streams) (room : ℕ) (left : Left I) (after : F) : Type 0 where
-    to_script : left.stream ≡ None → after ≡ before → IsWhyOfScript streams left.why
-        → LeavesCall before request streams room left after
-    unopened : left.stream ≡ None → CannotOpen files before (plan_seen request.plan).names streams left.why after
-        → LeavesCall before request streams room left after
-    once_opened : (opened : OpenedFiles I) (between : F) → AreRunnable streams
-        → OpensAll files before (plan_seen request.plan).names streams opened between
-        → LeavesOpened between request opened room left after → LeavesCall before request streams room left after
-    once_taken : (inputs : Inputs I) → orders_hits request ≡ true → Looks before request streams inputs after
+  pub data LeavesCall (before : F) (request : Request) (ways : Ways) (room : ℕ) (left : Left I) (after : F) : Type 0 where
+    by_ways : left.stream ≡ None → after ≡ before → IsWhyOfWays ways left.why
+        → LeavesCall before request ways room left after
+    unopened : left.stream ≡ None → CannotOpen files before (plan_seen request.plan).names ways left.why after
+        → LeavesCall before request ways room left after
+    once_opened : (opened : OpenedFiles I) (between : F) → AreRunnable ways
+        → OpensAll files before (plan_seen request.plan).names ways opened between
+        → LeavesOpened between request opened room left after → LeavesCall before request ways room left after
+    once_taken : (inputs : Inputs I) → orders_hits request ≡ true → Looks before request ways inputs after
         → left.stream ≡ stream_among inputs.first inputs.second → IsWhyOfHits left.why
-        → LeavesCall before request streams room left after
+        → LeavesCall before request ways room left after
 
 module _ {F I O : Type 0} (files : Files F I O) (source : Source I) (sink : Sink O) where
   -- a call is taken: its inputs were looked at, no hits have to be put in order, and then its plan was run over them
-  pub record Takes (before : F) (request : Request) (streams : Streams) (finished : Finished (FrontInput I) O) (after : F)
+  pub record Takes (before : F) (request : Request) (ways : Ways) (finished : Finished (FrontInput I) O) (after : F)
       : Type 0 where
     pub inputs : Inputs I
     pub between : F
-    pub looked : Looks files source before request streams inputs between
+    pub looked : Looks files source before request ways inputs between
     pub hits : orders_hits request ≡ false
     pub ran : RunsInputs files source sink between (plan_seen request.plan) inputs finished after
 
   -- a call is taken whose hits have to be put in order: its inputs were looked at, and then they were listed so
-  pub record TakesHits (before : F) (request : Request) (streams : Streams) (listed : Listed O) (after : F) : Type 0 where
+  pub record TakesHits (before : F) (request : Request) (ways : Ways) (listed : Listed O) (after : F) : Type 0 where
     pub inputs : Inputs I
     pub between : F
-    pub looked : Looks files source before request streams inputs between
+    pub looked : Looks files source before request ways inputs between
     pub hits : orders_hits request ≡ true
     pub lists : ListsInputs files sink source between (plan_seen request.plan) inputs listed after
 
@@ -127,7 +127,7 @@ module _ {F I O : Type 0} (files : Files F I O) (source : Source I) (sink : Sink
       (after ≡ before) × (left.stream ≡ stream_among inputs.first inputs.second) × IsWhyOfHits left.why
 
   -- what becomes of a call, of whose stream as many bytes are kept as there is room for
-  abbrev pub Answers : F → Request → Streams → ℕ → Answered I O → F → Type 0
-  Answers before request streams room (Took finished) after = Takes before request streams finished after
-  Answers before request streams room (Lists listed) after = TakesHits before request streams listed after
-  Answers before request streams room (IsLeft left) after = LeavesCall files source before request streams room left after
+  abbrev pub Answers : F → Request → Ways → ℕ → Answered I O → F → Type 0
+  Answers before request ways room (Took finished) after = Takes before request ways finished after
+  Answers before request ways room (Lists listed) after = TakesHits before request ways listed after
+  Answers before request ways room (IsLeft left) after = LeavesCall files source before request ways room left after

@@ -17,6 +17,7 @@ use Rattle.bt_front.specs.model.Verdict.{names_seen, second_names, verdict_of}
 use Rattle.bt_tool.specs.model.Options.{PlanSeen}
 use Rattle.bt_tool.specs.model.Table.{Word}
 use Rattle.drop_in.specs.calls.Inputs.{HasText, files_of, front_files, front_source}
+use Rattle.drop_in.specs.calls.Opening.{is_stream}
 use Rattle.drop_in.specs.calls.Whys.{IsWhyOfVerdict}
 use Rattle.drop_in.specs.declared.answering.Inputs.{Inputs}
 use Rattle.drop_in.specs.declared.front_files.FrontFiles.{FrontFiles}
@@ -26,9 +27,9 @@ use Rattle.drop_in.specs.declared.genome_file.GenomeFile.{GenomeFile}
 use Rattle.drop_in.specs.declared.looks.Left.{Left}
 use Rattle.drop_in.specs.declared.looks.ReadStream.{ReadStream}
 use Rattle.drop_in.specs.declared.looks.Reading.{Reading}
-use Rattle.drop_in.specs.declared.looks.Reading.TheVariants.{File, Stream}
+use Rattle.drop_in.specs.declared.looks.Reading.TheVariants.{File, Stream, Text}
 use Rattle.drop_in.specs.declared.looks.Seen.{Seen}
-use Rattle.drop_in.specs.declared.opening.Streams.{Streams}
+use Rattle.drop_in.specs.declared.opening.Ways.{Ways}
 use Rattle.drop_in.specs.declared.words.Request.{Request}
 
 -- what the words of a request ask for
@@ -36,9 +37,9 @@ abbrev pub asked_by : Request → Asked
 asked_by request = record { command = request.plan.command; is_sorted = request.is_sorted }
 
 -- The call may be run here: one of its inputs is a stream at most, which isn't the genome file.
-pub record AreRunnable (streams : Streams) : Type 0 where
-  pub genome : streams.genome ≡ false
-  pub one : streams.first && streams.second ≡ false
+pub record AreRunnable (ways : Ways) : Type 0 where
+  pub genome : ways.genome ≡ false
+  pub one : is_stream ways.first && is_stream ways.second ≡ false
 
 -- Inputs that were looked at.
 
@@ -49,12 +50,18 @@ survey_if seen = option_map (λ seen. seen.survey) seen
 abbrev pub reading_if : {I : Type 0} → Option (Seen I) → Option (Reading I)
 reading_if seen = option_map (λ seen. seen.reading) seen
 
+-- the stream of an input that a call may lack, if it is one
+abbrev pub stream_of : {I : Type 0} → Option (Reading I) → Option (ReadStream I)
+stream_of (Some (Stream stream)) = Some stream
+stream_of (Some (File again)) = None
+stream_of (Some (Text text)) = None
+stream_of None = None
+
 -- the stream among the inputs
 abbrev pub stream_among : {I : Type 0} → Reading I → Option (Reading I) → Option (ReadStream I)
 stream_among (Stream stream) second = Some stream
-stream_among (File again) None = None
-stream_among (File again) (Some (Stream stream)) = Some stream
-stream_among (File again) (Some (File other)) = None
+stream_among (File again) second = stream_of second
+stream_among (Text text) second = stream_of second
 
 -- The text of the genome file that a run goes by: what was read of the one that is given; or that of the order that was found.
 abbrev pub IsOrderText : InOrderOf → Option GenomeFile → Survey → Option Survey → Option (List ℕ) → Type 0
@@ -89,10 +96,11 @@ pub record IsLeftByVerdict {I : Type 0} (asked : Asked) (given : Option GenomeFi
 
 -- The run.
 
--- what a run reads of an input: the file that was opened again, or all that was kept of the stream
+-- what a run reads of an input: the file that was opened again, or all that was kept of the stream, or the text of a gzip file
 abbrev pub Reads : {I : Type 0} → Reading I → FrontInput I → Type 0
 Reads (File again) input = input ≡ Opened again
 Reads (Stream stream) input = HasText input stream.kept.items
+Reads (Text text) input = HasText input text.items
 
 -- if there is such an input
 abbrev pub ReadsIf : {I : Type 0} → Option (Reading I) → Option (FrontInput I) → Type 0

@@ -26,7 +26,7 @@ use Rattle.drop_in.specs.declared.hits.KeptTexts.{KeptTexts}
 use Rattle.drop_in.specs.declared.hits.Listed.{Listed}
 use Rattle.drop_in.specs.declared.looks.ReadStream.{ReadStream}
 use Rattle.drop_in.specs.declared.looks.Reading.{Reading}
-use Rattle.drop_in.specs.declared.looks.Reading.TheVariants.{File, Stream}
+use Rattle.drop_in.specs.declared.looks.Reading.TheVariants.{File, Stream, Text}
 use Rattle.drop_in.specs.declared.why.Why.{Why}
 use Rattle.drop_in.specs.declared.why.Why.TheVariants.{Changed, HitsRoom, NoMemory}
 
@@ -41,6 +41,7 @@ module _ {I : Type 0} where
   abbrev pub stream_read : Reading I → Option (ReadStream I)
   stream_read (File again) = None
   stream_read (Stream stream) = Some stream
+  stream_read (Text text) = None
 
   abbrev pub kept_stream : Kept I → Option (ReadStream I)
   kept_stream (KeptFile text) = None
@@ -55,10 +56,11 @@ module _ {I : Type 0} where
   stream_kept texts = first_stream texts.first texts.second
 
   module _ (source : Source I) where
-    -- what is in memory is all that a file handed over, or what was kept of a stream
+    -- what is in memory is all that a file handed over, or what was kept of a stream, or the text of a gzip file
     abbrev pub IsKept : Reading I → Kept I → Type 0
     IsKept (File again) (KeptFile text) = ReadsText source again text.items
     IsKept (Stream stream) (KeptStream kept) = kept ≡ stream
+    IsKept (Text text) (KeptFile kept) = kept ≡ text
     IsKept reading kept = ⊥
 
     -- the texts of both inputs are

@@ -1,6 +1,7 @@
 -- What looking at the inputs of a call does: files are those before and after.
-use Rattle.std.specs.Prelude.{ℕ, ◌≡◌, ⊤, true, List, Option, Some, None, Result, Ok, Err, length, nat_lt}
-use Rattle.bt_lines.specs.calls.Device.{EndsAfter}
+use Rattle.std.specs.Prelude.{ℕ, ◌≡◌, ◌⊎◌, ⊤, false, true, List, [], ◌∷◌, ◌++◌, Option, Some, None, Result, Ok, Err, Vec, length, nat_lt}
+use Rattle.std.specs.declared.alloc.Global.{Global}
+use Rattle.bt_lines.specs.calls.Device.{EndsAfter, FailsAfter, ReadsOn}
 use Rattle.bt_lines.specs.declared.device.Source.{Ghosts as Source}
 use Rattle.bt_lines.specs.declared.fault.Input.{Input}
 use Rattle.bt_lines.specs.declared.fault.Input.TheVariants.{Genome}
@@ -8,27 +9,42 @@ use Rattle.bt_lines.specs.model.Lines.{whole_text}
 use Rattle.bt_bed.specs.calls.GenomeTable.{entries}
 use Rattle.bt_bed.specs.model.Genome.{genome_handed}
 use Rattle.bt_files.specs.declared.files.Files.{Ghosts as Files}
-use Rattle.bt_front.specs.calls.Survey.{LeavesText, Surveys}
+use Rattle.bt_front.specs.calls.Survey.{IsTroubleOf, LeavesText, Surveys}
 use Rattle.bt_front.specs.declared.survey.Survey.{Survey}
 use Rattle.bt_front.specs.declared.survey.trouble.Trouble.{Trouble}
+use Rattle.bt_front.specs.model.Survey.{IsSurveyOf}
 use Rattle.bt_tool.specs.model.Table.{Word}
+use Rattle.drop_in.specs.calls.Gzip.{is_one_part}
 use Rattle.drop_in.specs.calls.Opening.{IsRefused}
-use Rattle.drop_in.specs.calls.Whys.{file_why, stream_why}
+use Rattle.drop_in.specs.calls.Whys.{file_why, stream_why, text_why, unread_why}
 use Rattle.drop_in.specs.declared.genome_file.GenomeFile.{GenomeFile}
 use Rattle.drop_in.specs.declared.looks.Left.{Left}
 use Rattle.drop_in.specs.declared.looks.ReadStream.{ReadStream}
-use Rattle.drop_in.specs.declared.looks.Reading.TheVariants.{File, Stream}
+use Rattle.drop_in.specs.declared.looks.Reading.TheVariants.{File, Stream, Text}
 use Rattle.drop_in.specs.declared.looks.Seen.{Seen}
 use Rattle.drop_in.specs.declared.opening.CallInputs.{CallInputs}
 use Rattle.drop_in.specs.declared.opening.FileOrStream.{FileOrStream}
 use Rattle.drop_in.specs.declared.opening.FileOrStream.TheVariants.{File as IsFile, Stream as IsStream}
 use Rattle.drop_in.specs.declared.opening.OpenedFile.{OpenedFile}
+use Rattle.drop_in.specs.declared.opening.OpenedGzip.{OpenedGzip}
+use Rattle.drop_in.specs.declared.opening.OpenedInput.{OpenedInput}
+use Rattle.drop_in.specs.declared.opening.OpenedInput.TheVariants.{File as OfFile, Gzip as OfGzip}
 use Rattle.drop_in.specs.declared.why.Why.{Why}
+use Rattle.drop_in.specs.declared.why.Why.TheVariants.{NoMemory, Parts, Unzip}
 
 -- all that a source hands over, up to its end
 pub record ReadsText {S : Type 0} (source : Source S) (before : S) (text : List ℕ) : Type 0 where
   pub after : S
   pub served : EndsAfter source.is_read before text after
+
+-- A source wasn't read to its end, which leaves the call: a read failed, or more came than there is room for, or there was no
+-- memory.
+pub data IsWhyUnread {S : Type 0} (source : Source S) (before : S) (input : Input) (room : ℕ) (why : Why) : Type 0 where
+  stopped : (bytes : List ℕ) (after : S)
+      → ReadsOn source.is_read before bytes after ⊎ FailsAfter source.is_read before bytes after
+      → why ≡ unread_why input (nat_lt room (length bytes)) (source.has_failed after)
+      → IsWhyUnread source before input room why
+  no_memory : why ≡ NoMemory → IsWhyUnread source before input room why
 
 -- A stream was surveyed, and all that it gave is kept, in order.
 abbrev pub SurveysStream : {I : Type 0} → Source I → I → ReadStream I → Result Survey Trouble → Type 0
@@ -64,28 +80,59 @@ module _ {I : Type 0} (source : Source I) where
     pub leaves : LeavesText source file.for_survey read trouble
     pub because : why ≡ file_why input trouble (source.has_failed read)
 
+  -- a gzip file was unzipped to this text: a NUL comes after it, which isn't part of it, and the file is one part
+  pub record IsUnzipped (gzip : OpenedGzip I) (text : List ℕ) : Type 0 where
+    pub text_read : ReadsText source gzip.text (text ++ 0 ∷ [])
+    pub zipped : List ℕ
+    pub zipped_read : ReadsText source gzip.zipped zipped
+    pub one_part : is_one_part zipped (length text) ≡ true
+
+  -- or it wasn't: one of both isn't read to its end; or the text has no NUL at its end; or the file has several parts
+  pub data IsWhyUnzipped (gzip : OpenedGzip I) (input : Input) (room : ℕ) (why : Why) : Type 0 where
+    text_unread : IsWhyUnread source gzip.text input room why → IsWhyUnzipped gzip input room why
+    no_end : (bytes : List ℕ) → ReadsText source gzip.text bytes → ((text : List ℕ) → ¬ (bytes ≡ text ++ 0 ∷ []))
+        → why ≡ Unzip input → IsWhyUnzipped gzip input room why
+    zipped_unread : IsWhyUnread source gzip.zipped input room why → IsWhyUnzipped gzip input room why
+    parts : (text zipped : List ℕ) → ReadsText source gzip.text (text ++ 0 ∷ []) → ReadsText source gzip.zipped zipped
+        → is_one_part zipped (length text) ≡ false → why ≡ Parts input → IsWhyUnzipped gzip input room why
+
+  -- the text of a gzip file was surveyed, and the run reads it
+  pub record SeesGzip (gzip : OpenedGzip I) (seen : Seen I) : Type 0 where
+    pub text : Vec ℕ Global
+    pub unzipped : IsUnzipped gzip text.items
+    pub survey : IsSurveyOf text.items seen.survey
+    pub reading : seen.reading ≡ Text text
+
+  -- or there is none, or it leaves the call
+  pub data LeavesGzip (gzip : OpenedGzip I) (input : Input) (room : ℕ) (why : Why) : Type 0 where
+    not_unzipped : IsWhyUnzipped gzip input room why → LeavesGzip gzip input room why
+    by_text : (text : List ℕ) (trouble : Trouble) → IsUnzipped gzip text → IsTroubleOf text trouble
+        → why ≡ text_why input trouble false → LeavesGzip gzip input room why
+
   -- an input, if it's a file
-  abbrev pub SeesIfFile : FileOrStream (OpenedFile I) → FileOrStream (Seen I) → Type 0
-  SeesIfFile (IsFile file) (IsFile seen) = SeesFile file seen
+  abbrev pub SeesIfFile : FileOrStream (OpenedInput I) → FileOrStream (Seen I) → Type 0
+  SeesIfFile (IsFile (OfFile file)) (IsFile seen) = SeesFile file seen
+  SeesIfFile (IsFile (OfGzip gzip)) (IsFile seen) = SeesGzip gzip seen
   SeesIfFile IsStream IsStream = ⊤
   SeesIfFile file seen = ⊥
 
-  abbrev pub LeavesIfFile : FileOrStream (OpenedFile I) → Input → Why → Type 0
-  LeavesIfFile (IsFile file) input why = LeavesFile file input why
-  LeavesIfFile IsStream input why = ⊥
+  abbrev pub LeavesIfFile : FileOrStream (OpenedInput I) → Input → ℕ → Why → Type 0
+  LeavesIfFile (IsFile (OfFile file)) input room why = LeavesFile file input why
+  LeavesIfFile (IsFile (OfGzip gzip)) input room why = LeavesGzip gzip input room why
+  LeavesIfFile IsStream input room why = ⊥
 
   -- if there is one
-  abbrev pub SeesOther : Option (FileOrStream (OpenedFile I)) → Option (FileOrStream (Seen I)) → Type 0
+  abbrev pub SeesOther : Option (FileOrStream (OpenedInput I)) → Option (FileOrStream (Seen I)) → Type 0
   SeesOther None None = ⊤
   SeesOther (Some file) (Some seen) = SeesIfFile file seen
   SeesOther file seen = ⊥
 
-  abbrev pub LeavesOther : Option (FileOrStream (OpenedFile I)) → Input → Why → Type 0
-  LeavesOther None input why = ⊥
-  LeavesOther (Some file) input why = LeavesIfFile file input why
+  abbrev pub LeavesOther : Option (FileOrStream (OpenedInput I)) → Input → ℕ → Why → Type 0
+  LeavesOther None input room why = ⊥
+  LeavesOther (Some file) input room why = LeavesIfFile file input room why
 
-  -- the inputs that are files were surveyed
-  pub record SeesFiles (opened : CallInputs (OpenedFile I)) (seen : CallInputs (Seen I)) : Type 0 where
+  -- the inputs that are files were looked at
+  pub record SeesFiles (opened : CallInputs (OpenedInput I)) (seen : CallInputs (Seen I)) : Type 0 where
     pub first : SeesIfFile opened.first seen.first
     pub second : SeesOther opened.second seen.second
 

@@ -1,5 +1,5 @@
 -- Why a call is left.
-use Rattle.std.specs.Prelude.{◌≡◌, Bool, true, false, ◌&&◌, List, Option, Ok, Err, not, if◌then◌else◌}
+use Rattle.std.specs.Prelude.{◌≡◌, Bool, true, false, ◌&&◌, ◌||◌, List, Option, Ok, Err, not, if◌then◌else◌}
 use Rattle.bt_lines.specs.declared.fault.Input.{Input}
 use Rattle.bt_lines.specs.declared.fault.Kind.{Kind}
 use Rattle.bt_lines.specs.declared.fault.Kind.TheVariants.{ReadFailed}
@@ -14,19 +14,20 @@ use Rattle.bt_front.specs.declared.verdict.reason.Reason.{Reason}
 use Rattle.bt_front.specs.declared.verdict.reason.Reason.TheVariants.{NoCommonOrder}
 use Rattle.bt_front.specs.declared.words.Asked.{Asked}
 use Rattle.bt_front.specs.model.Verdict.{have_common_order, lists_hits, verdict_of}
-use Rattle.drop_in.specs.declared.opening.Streams.{Streams}
+use Rattle.drop_in.specs.calls.Opening.{is_stream}
+use Rattle.drop_in.specs.declared.opening.Ways.{Ways}
 use Rattle.drop_in.specs.declared.why.Why.{Why}
-use Rattle.drop_in.specs.declared.why.Why.TheVariants.{GenomeStream, LongStream, NoMemory, Text, TwoStreams, Verdict, Zipped}
+use Rattle.drop_in.specs.declared.why.Why.TheVariants.{GenomeStream, LongStream, NoMemory, Text, TwoStreams, Unzip, Verdict, Zipped}
 use Rattle.drop_in.specs.declared.words.Request.{Request}
 
 -- the hits of a record have to be put in order
 abbrev pub orders_hits : Request → Bool
 orders_hits request = lists_hits request.plan.command && not request.is_sorted
 
--- the script takes it, whatever is in the files
-pub data IsWhyOfScript (streams : Streams) : Why → Type 0 where
-  of_genome : streams.genome ≡ true → IsWhyOfScript streams GenomeStream
-  of_two : streams.first && streams.second ≡ true → IsWhyOfScript streams TwoStreams
+-- the ways in which its inputs come leave it, whatever is in the files
+pub data IsWhyOfWays (ways : Ways) : Why → Type 0 where
+  of_genome : ways.genome ≡ true → IsWhyOfWays ways GenomeStream
+  of_two : is_stream ways.first && is_stream ways.second ≡ true → IsWhyOfWays ways TwoStreams
 
 -- no order of chromosomes is found that fits the inputs, or there is no memory for it
 pub data IsWhyOfOrder (one : Survey) (other : Option Survey) : Why → Type 0 where
@@ -68,3 +69,7 @@ abbrev pub stream_why : Input → Trouble → Bool → Bool → Why
 stream_why input (Refused fault) is_long has_failed =
     if is_failed_read fault.kind && is_long then LongStream else text_why input (Refused fault) has_failed
 stream_why input trouble is_long has_failed = Text input trouble
+
+-- of a text that wasn't read to its end: by whether more came of it than there is room for, and by whether a read failed
+abbrev pub unread_why : Input → Bool → Bool → Why
+unread_why input is_long has_failed = if is_long || has_failed then Unzip input else NoMemory

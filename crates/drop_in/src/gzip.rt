@@ -1,0 +1,145 @@
+//! Gzip files, whose text comes on a pipe of its own: what unzips them puts a NUL after the text once all of it is written.
+
+ghost use Rattle.std.specs.Prelude.{◌≡◌, IfErr, IfOk};
+ghost use Rattle.bt_front.specs.calls.Survey.{IsTroubleOf};
+ghost use Rattle.bt_front.specs.model.Survey.{IsSurveyOf};
+ghost use Rattle.drop_in.specs.calls.Gzip.{has_extra_fields, is_one_part, tells_length};
+ghost use Rattle.drop_in.specs.calls.Looks.{IsUnzipped, IsWhyUnread, IsWhyUnzipped, LeavesGzip, ReadsText, SeesGzip};
+ghost use Rattle.drop_in.specs.calls.Whys.{unread_why};
+
+use crate::looks::{Reading, Seen, text_why};
+use crate::opening::OpenedGzip;
+use crate::why::Why;
+use bt_front::{Keeping, Survey, Trouble};
+use bt_lines::{FromRead, Input, Source};
+use std::alloc::Global;
+
+// How many bytes are read together.
+const PIECE: usize = 8192;
+
+/// Looks at the text of a gzip file, of which as many bytes are kept as there is room for.
+pub fn look_at_gzip<I: Source + Drop>(
+    alloc: Global,
+    gzip: OpenedGzip<I>,
+    input: Input,
+    room: usize,
+) -> Result<Seen<I>, Why>
+    ensures sees { IfOk result (SeesGzip I.Source gzip) }
+    ensures leaves { IfErr result (LeavesGzip I.Source gzip input room) }
+{
+    let text = match unzip(alloc, gzip, input, room) {
+        Ok(text) => text,
+        Err(why) => return Err(why),
+    };
+    match survey_text(alloc, text.as_slice()) {
+        Ok(survey) => Ok(Seen {
+            survey,
+            reading: Reading::Text(text),
+        }),
+        Err(trouble) => Err(text_why(input, trouble, false)),
+    }
+}
+
+// The text of a gzip file, if it is whole, and if the file is one part.
+fn unzip<I: Source + Drop>(
+    alloc: Global,
+    gzip: OpenedGzip<I>,
+    input: Input,
+    room: usize,
+) -> Result<Vec<u8>, Why>
+    ensures gives { IfOk result (λ text. IsUnzipped I.Source gzip text.items) }
+    ensures leaves { IfErr result (IsWhyUnzipped I.Source gzip input room) }
+{
+    let OpenedGzip { zipped, text } = gzip;
+    let mut text = match read_all(alloc, text, input, room) {
+        Ok(text) => text,
+        Err(why) => return Err(why),
+    };
+    match text.pop() {
+        Some(0) => {}
+        _ => return Err(Why::Unzip(input)),
+    }
+    let zipped = match read_all(alloc, zipped, input, room) {
+        Ok(zipped) => zipped,
+        Err(why) => return Err(why),
+    };
+    if is_one_part(zipped.as_slice(), text.len()) {
+        Ok(text)
+    } else {
+        Err(Why::Parts(input))
+    }
+}
+
+// All that a source hands over, up to its end, unless that is more than there is room for.
+fn read_all<S: Source + Drop>(
+    alloc: Global,
+    source: S,
+    input: Input,
+    room: usize,
+) -> Result<Vec<u8>, Why>
+    ensures reads { IfOk result (λ text. ReadsText S.Source source text.items) }
+    ensures leaves { IfErr result (IsWhyUnread S.Source source input room) }
+{
+    let mut keeping = Keeping::new(alloc, source, room);
+    let mut piece = [0u8; PIECE];
+    for _ in 0..u64::MAX {
+        match keeping.read(&mut piece) {
+            Ok(0) => {
+                let (_source, text) = keeping.into_parts();
+                return Ok(text);
+            }
+            Ok(_) => {}
+            Err(_failed) => {
+                let (source, kept) = keeping.into_parts();
+                return Err(unread_why(input, room < kept.len(), source.failed()));
+            }
+        }
+    }
+    Err(Why::NoMemory)
+}
+
+// Why a text that wasn't read to its end leaves the call.
+fn unread_why(input: Input, is_long: bool, has_failed: bool) -> Why
+    ensures { result ≡ unread_why input is_long has_failed }
+{
+    if is_long || has_failed {
+        Why::Unzip(input)
+    } else {
+        Why::NoMemory
+    }
+}
+
+// Whether a gzip file is one part, as far as that can be told: of several, bedtools may read the first alone. Blocks as bgzip
+// writes them are one, since bedtools reads them all.
+fn is_one_part(zipped: &[u8], count: usize) -> bool
+    ensures { result ≡ is_one_part zipped.now count }
+{
+    has_extra_fields(zipped) || tells_length(zipped, count)
+}
+
+// Whether its header has extra fields, and nothing else that may be left out.
+fn has_extra_fields(zipped: &[u8]) -> bool
+    ensures { result ≡ has_extra_fields zipped.now }
+{
+    zipped.starts_with(&[0x1f, 0x8b, 8, 4])
+}
+
+// Whether its end says that its text has this many bytes.
+fn tells_length(zipped: &[u8], count: usize) -> bool
+    ensures { result ≡ tells_length zipped.now count }
+{
+    match zipped.last_chunk::<4>() {
+        Some(last) => u64::from(u32::from_le_bytes(*last)) == count as u64 % 4_294_967_296,
+        None => false,
+    }
+}
+
+// Surveys a text.
+fn survey_text(alloc: Global, text: &[u8]) -> Result<Survey, Trouble>
+    ensures surveys { IfOk result (IsSurveyOf text.now) }
+    ensures leaves { IfErr result (IsTroubleOf text.now) }
+{
+    let source = FromRead::new(text);
+    let (surveyed, _source) = Survey::read(alloc, source);
+    surveyed
+}
