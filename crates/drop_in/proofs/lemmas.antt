@@ -1,5 +1,6 @@
 -- Lemmas by theme.
 pub mod GenomeLemmas
+pub mod GzipLemmas
 pub mod HitLemmas
 pub mod KeptLemmas
 pub mod MarkLemmas

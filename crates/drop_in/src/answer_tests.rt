@@ -188,7 +188,7 @@ const UNZIP: Option<Why> = Some(Why::Unzip(Input::First));
 const PARTS: Option<Why> = Some(Why::Parts(Input::First));
 
 #[rattlefmt::skip]
-const GZIP_ROWS: [GzipRow; 13] = [
+const GZIP_ROWS: [GzipRow; 14] = [
     ("merge -i a", FIRST_GZIP, ONE_GZIP, b"", b"chr1\t1\t5\nchr1\t3\t9\n\0", Some(b"chr1\t1\t9\n"), None),
     ("merge -i a", FIRST_GZIP, ONE_BGZIP, b"", b"chr1\t1\t5\nchr1\t3\t9\n\0", Some(b"chr1\t1\t9\n"), None),
     ("merge -i a", FIRST_GZIP, NOTHING_GZIP, b"", b"\0", Some(b""), None),
@@ -201,6 +201,7 @@ const GZIP_ROWS: [GzipRow; 13] = [
     ("merge -i c", FIRST_GZIP, ONE_GZIP, b"", b"\0", None, Some(Why::Unopened(Input::First))),
     ("intersect -v -a a -b b", GZIP_AND_STREAM, ONE_GZIP, b"chr1\t8\t10\n", b"chr1\t1\t5\nchr1\t3\t9\n\0", Some(b"chr1\t1\t5\n"), None),
     ("intersect -wb -a a -b b", SECOND_GZIP, PEAKS, GENES_GZIP, b"chr2\t1\t6\nchr1\t0\t20000\nchr1\t10\t150\n\0", Some(b"chr2\t5\t6\tchr2\t1\t6\nchr1\t100\t150\tchr1\t10\t150\nchr1\t100\t200\tchr1\t0\t20000\n"), None),
+    ("intersect -wb -a a -b b", SECOND_GZIP, PEAKS, ONE_BGZIP, b"chr1\t0\t20000\tabcdefghijklmnopqrstuvwxyzabcdefghijklmnopqrstuvwxyzabcdefghijklmnopqrstuvwxyz\n\0", None, Some(Why::HitsRoom)),
     ("merge -i a", FIRST_GZIP, ONE_BGZIP, b"", b"chr1\t0\t20000\tabcdefghijklmnopqrstuvwxyzabcdefghijklmnopqrstuvwxyzabcdefghijklmnopqrstuvwxyz\n\
         chr1\t10\t150\tabcdefghijklmnopqrstuvwxyz\n\0", None, UNZIP),
 ];

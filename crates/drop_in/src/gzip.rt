@@ -1,6 +1,6 @@
 //! Gzip files, whose text comes on a pipe of its own: what unzips them puts a NUL after the text once all of it is written.
 
-ghost use Rattle.std.specs.Prelude.{◌≡◌, IfErr, IfOk};
+ghost use Rattle.std.specs.Prelude.{ℕ, List, [], ◌∷◌, ◌++◌, ◌≡◌, IfErr, IfNone, IfOk, IfSome};
 ghost use Rattle.bt_front.specs.calls.Survey.{IsTroubleOf};
 ghost use Rattle.bt_front.specs.model.Survey.{IsSurveyOf};
 ghost use Rattle.drop_in.specs.calls.Gzip.{has_extra_fields, is_one_part, tells_length};
@@ -51,14 +51,14 @@ fn unzip<I: Source + Drop>(
     ensures leaves { IfErr result (IsWhyUnzipped I.Source gzip input room) }
 {
     let OpenedGzip { zipped, text } = gzip;
-    let mut text = match read_all(alloc, text, input, room) {
-        Ok(text) => text,
+    let bytes = match read_all(alloc, text, input, room) {
+        Ok(bytes) => bytes,
         Err(why) => return Err(why),
     };
-    match text.pop() {
-        Some(0) => {}
-        _ => return Err(Why::Unzip(input)),
-    }
+    let text = match without_end(bytes) {
+        Some(text) => text,
+        None => return Err(Why::Unzip(input)),
+    };
     let zipped = match read_all(alloc, zipped, input, room) {
         Ok(zipped) => zipped,
         Err(why) => return Err(why),
@@ -98,6 +98,18 @@ fn read_all<S: Source + Drop>(
     Err(Why::NoMemory)
 }
 
+// The text without the NUL that comes after it; none if it has no NUL there.
+fn without_end(bytes: Vec<u8>) -> Option<Vec<u8>>
+    ensures whole { IfSome result (λ text. bytes.items ≡ text.items ++ 0 ∷ []) }
+    ensures cut { IfNone result ((text : List ℕ) → ¬ (bytes.items ≡ text ++ 0 ∷ [])) }
+{
+    let mut bytes = bytes;
+    match bytes.pop() {
+        Some(0) => Some(bytes),
+        _ => None,
+    }
+}
+
 // Why a text that wasn't read to its end leaves the call.
 fn unread_why(input: Input, is_long: bool, has_failed: bool) -> Why
     ensures { result ≡ unread_why input is_long has_failed }
@@ -109,7 +121,7 @@ fn unread_why(input: Input, is_long: bool, has_failed: bool) -> Why
     }
 }
 
-// Whether a gzip file is one part, as far as that can be told: of several, bedtools may read the first alone. Blocks as bgzip
+// Whether a gzip file is one part, as far as that can be known: of several, bedtools may read the first alone. Blocks as bgzip
 // writes them are one, since bedtools reads them all.
 fn is_one_part(zipped: &[u8], count: usize) -> bool
     ensures { result ≡ is_one_part zipped.now count }

@@ -97,6 +97,9 @@ fn keep_both<I: Source + Drop>(
     let Some(second) = second else {
         return Err(stream_among(first, None));
     };
+    let Some(room) = room_beside(&first, &second, room) else {
+        return Err(stream_among(first, Some(second)));
+    };
     let first = match keep(alloc, first, room) {
         Some(first) => first,
         None => return Err(stream_of(second)),
@@ -104,6 +107,19 @@ fn keep_both<I: Source + Drop>(
     match keep(alloc, second, room) {
         Some(second) => Ok(KeptTexts { first, second }),
         None => Err(kept_stream(first)),
+    }
+}
+
+// How many bytes there is room for beside the texts of gzip files, which are kept; none if they don't fit.
+fn room_beside<I>(first: &Reading<I>, second: &Reading<I>, room: usize) -> Option<usize> {
+    room.checked_sub(text_len(first))?
+        .checked_sub(text_len(second))
+}
+
+fn text_len<I>(reading: &Reading<I>) -> usize {
+    match reading {
+        Reading::Text(text) => text.len(),
+        Reading::File(_) | Reading::Stream(_) => 0,
     }
 }
 

@@ -20,7 +20,7 @@ use Rattle.drop_in.specs.calls.Whys.{orders_hits}
 use Rattle.drop_in.specs.declared.answering.Answered.{Answered}
 use Rattle.drop_in.specs.declared.answering.Answered.TheVariants.{Left as IsLeft, Listed as Lists, Took}
 use Rattle.drop_in.specs.declared.answering.Inputs.{Inputs}
-use Rattle.drop_in.specs.declared.opening.Streams.{Streams}
+use Rattle.drop_in.specs.declared.opening.Ways.{Ways}
 use Rattle.drop_in.specs.declared.words.Request.{Request}
 
 -- what follows from what holds of an Ok
@@ -48,10 +48,10 @@ order_given genome text read found is same handed = record {
 
 module _ {F I O : Type 0} (files : Files F I O) (source : Source I) (sink : Sink O) where
   -- what becomes of a call whose hits have to be put in order, once its inputs were looked at
-  pub answers_listed : (before between after : F) (request : Request) (streams : Streams) (room : ℕ) (inputs : Inputs I) (answered : Answered I O)
-      → Looks files source before request streams inputs between → orders_hits request ≡ true
-      → ListsTaken files source sink between (plan_seen request.plan) inputs answered after → Answers files source sink before request streams room answered after
-  answers_listed before between after request streams room inputs (Took finished) looked hits lists = absurd lists
-  answers_listed before between after request streams room inputs (Lists listed) looked hits lists = record { inputs = inputs; between = between; looked = looked; hits = hits; lists = lists }
-  answers_listed before between after request streams room inputs (IsLeft left) looked hits lists =
-      once_taken inputs hits (subst (λ (f : F). Looks files source before request streams inputs f) (sym lists.0) looked) lists.1 lists.2
+  pub answers_listed : (before between after : F) (request : Request) (ways : Ways) (room : ℕ) (inputs : Inputs I) (answered : Answered I O)
+      → Looks files source before request ways inputs between → orders_hits request ≡ true
+      → ListsTaken files source sink between (plan_seen request.plan) inputs answered after → Answers files source sink before request ways room answered after
+  answers_listed before between after request ways room inputs (Took finished) looked hits lists = absurd lists
+  answers_listed before between after request ways room inputs (Lists listed) looked hits lists = record { inputs = inputs; between = between; looked = looked; hits = hits; lists = lists }
+  answers_listed before between after request ways room inputs (IsLeft left) looked hits lists =
+      once_taken inputs hits (subst (λ (f : F). Looks files source before request ways inputs f) (sym lists.0) looked) lists.1 lists.2

@@ -14,6 +14,6 @@ abbrev pub tells_length : List ℕ → ℕ → Bool
 tells_length zipped count =
     nat_le 4 (length zipped) && (from_le_bytes w32 (drop (length zipped - 4) zipped) == (count % (2 ^ 32)))
 
--- a gzip file whose text has this length is one part, as far as that can be told: or it is in blocks as bgzip writes them
+-- a gzip file whose text has this length is one part, as far as that can be known: or it is in blocks as bgzip writes them
 abbrev pub is_one_part : List ℕ → ℕ → Bool
 is_one_part zipped count = has_extra_fields zipped || tells_length zipped count

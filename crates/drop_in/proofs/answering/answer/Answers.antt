@@ -11,7 +11,7 @@ run_inputs-finished-requires g c =
 
 pub returns-then-orders_hits : goal.returns-then-orders_hits
 returns-then-orders_hits g c =
-    answers_listed g.F.Files g.I.Source g.F.Output.Sink c.args.files c.look.new.files c.list_taken.result.1 c.args.request c.args.streams c.args.room c.in-Ok.inputs c.list_taken.result.0
+    answers_listed g.F.Files g.I.Source g.F.Output.Sink c.args.files c.look.new.files c.list_taken.result.1 c.args.request c.args.ways c.args.room c.in-Ok.inputs c.list_taken.result.0
     c.in-Ok.ensures.looks (sym c.orders_hits.ensures ∙ c.if-orders_hits.true) c.list_taken.ensures
 
 pub returns-else-orders_hits : goal.returns-else-orders_hits
