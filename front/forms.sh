@@ -12,7 +12,7 @@ make_form() {
         dk_seen="$dk_seen$1 " dk_at=$((dk_at + 1))
         case $1 in
         -i | -g | -strand | -max | -scale)
-            [ $# -gt 1 ] || return
+            [ -n "${2-}" ] || return
             case $1 in
             -max) dk_max=$2 ;;
             -scale) dk_scale=$2 ;;
@@ -36,7 +36,7 @@ make_form() {
     *) return 1 ;;
     esac
     case $dk_form/$dk_max in scaled/?*) return 1 ;; esac
-    tells_failed_writes
+    [ -s "$dk_home/whole.awk" ] && [ -s "$dk_home/float.awk" ] && [ -s "$dk_home/$dk_form.awk" ] && tells_failed_writes
 }
 
 # tells_failed_writes: whether awk ends with a fault where a write failed. That of busybox doesn't, and what it loses is

@@ -65,7 +65,7 @@ judge_words() {
 
 # judge_tools: sets `dk_why` if something lacks
 judge_tools() {
-    for dk_tool in awk cat cut df grep head mktemp rm sort tail tr uniq wc; do
+    for dk_tool in awk cat cut df grep head mktemp rm sort tail tr wc; do
         command -v "$dk_tool" > /dev/null || { dk_why="there is no $dk_tool"; return; }
     done
     has_parts whole.awk order_genome.awk float.awk histogram.awk each_base.awk scaled.awk bed12_blocks.awk \
