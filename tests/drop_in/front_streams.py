@@ -145,7 +145,7 @@ def try_signals(place, folder, count):
     if is_busy("signals"):
         return
     slow = fake(folder.parent / "slow tr", "tr", "exec sleep 60")
-    unzips = fake(folder.parent / "slow gzip", "gzip", "exec sleep 60")
+    unzips = fake(folder.parent / "slow gzip", "gzip", "while sleep 0.05; do printf 'chr1\\t2\\t9\\n'; done")
     awk = fake(folder.parent / "slow awk", "awk",
                f'case "$*" in *histogram*) exec sleep 60 ;; esac; exec {shutil.which("awk")} "$@"')
     scripts = {
