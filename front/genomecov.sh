@@ -29,7 +29,7 @@ cover() {
 # judge_call WORD..: sets `dk_why` if the words, the sizes of the files or the original leave the call to that
 judge_call() {
     read_options "$@"
-    dk_room=${DUNEKETTLE_ROOM:-67108864} dk_small=${DUNEKETTLE_SMALL:-262144}
+    dk_room=${DUNEKETTLE_ROOM:-268435456} dk_small=${DUNEKETTLE_SMALL:-262144}
     case $dk_room/$dk_small in
     *[!0-9]*/* | */*[!0-9]*) dk_why='DUNEKETTLE_ROOM or DUNEKETTLE_SMALL is no number'; return ;;
     esac
@@ -227,12 +227,12 @@ cover_alignments() {
     [ -n "$dk_why" ] || look_at_blocks
 }
 
-# find_blocks: writes the blocks of the alignments, of at most 16 times as much text as a stream may have. Those behind
+# find_blocks: writes the blocks of the alignments, of at most four times as much text as a stream may have. Those behind
 # the first of a read are sorted, into the file `dk_later`.
 find_blocks() {
-    dk_most=$((dk_room * 16)) dk_gaps=''
+    dk_most=$((dk_room * 4)) dk_gaps=''
     ! has_word -split || dk_gaps=1
-    has_room "$((dk_most * 4))" || dk_most=$((dk_room * 2))
+    has_room "$((dk_most * 4))" || dk_most=$((dk_room / 2))
     open_blocks "$((dk_most * 4))"
     [ -n "$dk_why" ] || open_files later || dk_why='TMPDIR takes no file, or too many are open'
     [ -z "$dk_why" ] || return 0
