@@ -1,5 +1,5 @@
 # shellcheck shell=sh disable=SC2016,SC2034,SC2154
-# Forms of genomecov that awk makes of -bga or -bg: read by the drop-in `bedtools`.
+# Forms of genomecov that awk makes of -bga: read by the drop-in `bedtools`.
 
 # make_form WORD..: if the words ask for such a form, sets `dk_call` to the words by which the program writes what awk
 # reads, `dk_places` to the place of each in the call, and the files of awk `dk_filter` with the value `dk_value`
@@ -21,8 +21,10 @@ make_form() {
             shift
             dk_at=$((dk_at + 1))
             ;;
-        -bg | -bga) [ -z "$dk_form" ] || return; dk_form=$1 dk_words="$dk_words $1" dk_among="$dk_among $dk_at" ;;
-        -d | -dz) [ -z "$dk_form" ] || return; dk_form=$1 dk_words="$dk_words -bga" dk_among="$dk_among $dk_at" ;;
+        -bg | -bga | -d | -dz)
+            [ -z "$dk_form" ] || return
+            dk_form=$1 dk_words="$dk_words -bga" dk_among="$dk_among $dk_at"
+            ;;
         *) return 1 ;;
         esac
         shift
@@ -30,12 +32,12 @@ make_form() {
     case $dk_max in *[!0-9]* | 0* | ??????????*) return 1 ;; esac
     case $dk_scale in *[!0-9.]* | *.*.* | .* | *. | ???????????*) return 1 ;; esac
     case $dk_form/$dk_max/$dk_scale in
-    -bg*/*/?*) dk_form=scaled dk_value=$dk_scale ;;
+    -bg//?*) dk_form=scaled dk_value="-bg $dk_scale" ;;
+    -bga//?*) dk_form=scaled dk_value=$dk_scale ;;
     -d*/*/) dk_value=$dk_form dk_form=each_base ;;
     /*/) dk_form=histogram dk_value=${dk_max:-2147483647} dk_words="$dk_words -bga" dk_among="$dk_among 0" ;;
     *) return 1 ;;
     esac
-    case $dk_form/$dk_max in scaled/?*) return 1 ;; esac
     [ -s "$dk_home/whole.awk" ] && [ -s "$dk_home/float.awk" ] && [ -s "$dk_home/$dk_form.awk" ] && tells_failed_writes
 }
 

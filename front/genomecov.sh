@@ -1,8 +1,8 @@
 # shellcheck shell=sh disable=SC2034,SC2154
-# Calls of genomecov that the program of the drop-in leaves to this script: other orders of chromosomes, one strand, blocks,
-# BAM files, and depths of a million. They are made of -bg and -bga of the program, from files alone: read by the drop-in of
-# `dunekettle`. The file `dk_names` has the chromosomes in the order in which they come. Whatever is uncertain goes to the
-# original.
+# Calls of genomecov that the program of the drop-in leaves to this script: other orders of chromosomes, one strand,
+# blocks, BAM files, and depths of a million. They are made of -bg and -bga of the program, from files alone: read by
+# the drop-in of `dunekettle`. The file `dk_names` has the chromosomes in the order in which they come. Whatever is
+# uncertain goes to the original.
 #
 #     words.sh    what the words say
 #     files.sh    what all of these use
@@ -65,6 +65,10 @@ judge_words() {
 
 # judge_tools: sets `dk_why` if something lacks
 judge_tools() {
+    if [ ! -f "$dk_program" ] || [ ! -s "$dk_program" ] || [ ! -x "$dk_program" ]; then
+        dk_why="there is no $dk_program"
+        return
+    fi
     for dk_tool in awk cat cut df grep head mktemp rm sort tail tr wc; do
         command -v "$dk_tool" > /dev/null || { dk_why="there is no $dk_tool"; return; }
     done
@@ -73,7 +77,8 @@ judge_tools() {
     tells_failed_writes || dk_why='awk ends well where a write failed'
 }
 
-# judge_worth: sets `dk_why` where the original is quicker than a look at the files. It goes over each base of the genome.
+# judge_worth: sets `dk_why` where the original is quicker than a look at the files. It goes over each base of the
+# genome.
 judge_worth() {
     dk_input=${dk_ibam:-$dk_i}
     for dk_file in "$dk_input" ${dk_g:+"$dk_g"}; do
@@ -227,8 +232,8 @@ cover_alignments() {
     [ -n "$dk_why" ] || look_at_blocks
 }
 
-# find_blocks: writes the blocks of the alignments, of at most four times as much text as a stream may have. Those behind
-# the first of a read are sorted, into the file `dk_later`.
+# find_blocks: writes the blocks of the alignments, of at most four times as much text as a stream may have. Those
+# behind the first of a read are sorted, into the file `dk_later`.
 find_blocks() {
     dk_most=$((dk_room * 4)) dk_gaps=''
     ! has_word -split || dk_gaps=1

@@ -17,15 +17,16 @@ NEEDY = (
 # The script that takes what the program leaves to it.
 SCRIPT = "lib/dunekettle/script/bedtools"
 PARTS = (
-    *(f"lib/dunekettle/{name}.sh" for name in ("words", "files", "judge", "through", "genomecov", "forms", "gzip", "hints")),
+    *(f"lib/dunekettle/{name}.sh"
+      for name in ("words", "files", "judge", "through", "genomecov", "forms", "gzip", "hints")),
     "bin/dunekettle-bedtools", "lib/dunekettle/help.txt", "lib/dunekettle/drop-in", SCRIPT,
 )
 # A call of which awk makes what the program writes, and one that the script takes, with the parts that each needs.
 FORM, STRAND = "genomecov -i f.bed -g g.txt", "genomecov -bga -strand + -i f.bed -g g.txt"
 NEEDED = {
     FORM: ("whole.awk", "float.awk", "histogram.awk"),
-    STRAND: ("words.sh", "files.sh", "judge.sh", "through.sh", "genomecov.sh", "whole.awk", "order_genome.awk", "float.awk",
-             "histogram.awk"),
+    STRAND: ("words.sh", "files.sh", "judge.sh", "through.sh", "genomecov.sh", "whole.awk", "order_genome.awk",
+             "float.awk", "histogram.awk"),
 }
 
 

@@ -126,7 +126,8 @@ def try_spoilt(place, folder, count):
                   f'case "$*" in *visibility*) printf "{changed}" > changes.bed ;; esac\nexit $status')
     (folder / "changes.bed").write_bytes(FILES["f.bed"])
     words = ["genomecov", "-bg", "-i", "changes.bed", "-g", "g.txt"]
-    found = call([place / "lib" / "dunekettle" / "script" / "bedtools", *words], folder, looking(drop_in(place), spoils))
+    found = call([place / "lib" / "dunekettle" / "script" / "bedtools", *words], folder,
+                 looking(drop_in(place), spoils, DUNEKETTLE_WHY=""))
     wanted = "bedtools genomecov: changes.bed:2: record is out of order\n" + WHOSE
     count.expect("a file that changes", (b"", wanted, 1), found)
 

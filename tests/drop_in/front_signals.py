@@ -92,7 +92,8 @@ def try_named_pipes(place, folder, count):
     for name in ("pipe", "other"):
         os.mkfifo(folder / name)
     count.expect("a named pipe", 0, shell("cat f.bed > pipe & bedtools complement -i pipe -g g.txt", folder, alone)[2])
-    count.expect("two named pipes", 7, call(["bedtools", "intersect", "-u", "-a", "pipe", "-b", "other"], folder, alone)[2])
+    words = ["bedtools", "intersect", "-u", "-a", "pipe", "-b", "other"]
+    count.expect("two named pipes", 7, call(words, folder, alone)[2])
     for name in ("pipe", "other"):
         (folder / name).unlink()
 

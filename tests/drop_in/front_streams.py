@@ -110,8 +110,8 @@ def try_losses(place, folder, count):
         count.expect(f"little room: {script}", ("Dunekettle", 0), (TOLD.findall(found[1])[0][0], found[2]))
     if is_busy("a feeder that is killed"):
         return
-    child = start("(head -n 4000 a.bed; sleep 2; tail -n 4000 a.bed) | bedtools merge > /dev/null; exit ${PIPESTATUS[1]}",
-                  place, folder, DUNEKETTLE_ROOM="1000")
+    slow = "(head -n 4000 a.bed; sleep 2; tail -n 4000 a.bed)"
+    child = start(f"{slow} | bedtools merge > /dev/null; exit ${{PIPESTATUS[1]}}", place, folder, DUNEKETTLE_ROOM="1000")
     time.sleep(1)
     feeders = [pid for pid, comm in started_by(child.pid) if comm == "drop-in"]
     for pid in feeders:

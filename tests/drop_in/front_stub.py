@@ -53,7 +53,7 @@ exit 7
 FORMS = (
     ("-i a.bed -g g.txt", "-i a.bed -g g.txt -bga"), ("-d -i a.bed -g g.txt", "-bga -i a.bed -g g.txt"),
     ("-i a.bed -dz -g g.txt", "-i a.bed -bga -g g.txt"), ("-max 2 -i a.bed -g g.txt", "-i a.bed -g g.txt -bga"),
-    ("-bg -scale 0.5 -i a.bed -g g.txt", "-bg -i a.bed -g g.txt"),
+    ("-bg -scale 0.5 -i a.bed -g g.txt", "-bga -i a.bed -g g.txt"),
     ("-i a.bed -scale 2 -bga -g g.txt", "-i a.bed -bga -g g.txt"),
     ("-strand + -i a.bed -g g.txt", "-strand + -i a.bed -g g.txt -bga"),
 )
@@ -71,6 +71,7 @@ MADE = {
                                 b"genome\t0\t2\t5\t0.4\ngenome\t1\t2\t5\t0.4\ngenome\t2\t1\t5\t0.2\n",
     "-d -i a.bed -g g.txt": b"chr1\t1\t0\nchr1\t2\t0\nchr1\t3\t1\nchr1\t4\t1\nchr1\t5\t3\n",
     "-dz -i a.bed -g g.txt": b"chr1\t2\t1\nchr1\t3\t1\nchr1\t4\t3\n",
+    "-bg -scale 0.5 -i a.bed -g g.txt": b"chr1\t2\t4\t0.5\nchr1\t4\t5\t1.5\n",
     "-bga -scale 0.5 -i a.bed -g g.txt": b"chr1\t0\t2\t0\nchr1\t2\t4\t0.5\nchr1\t4\t5\t1.5\n",
 }
 
@@ -270,8 +271,8 @@ class Stub(unittest.TestCase):
 
     def test_two_gzip_files(self):
         words = ["subtract", "-a", self.zipped("a.gz", BYTES), "-b", self.zipped("b.gz", b"b\n")]
-        play = ('case $unzipped in *,*,*) tell d; first=${unzipped#,3=}; eval "cat <&${first%%,*}; cat <&${unzipped##*=}" ;;'
-                ' *,*) tell "z 5" ;; *) tell "z 3" ;; esac')
+        play = ('case $unzipped in *,*,*) tell d; first=${unzipped#,3=}; eval "cat <&${first%%,*}; cat <&${unzipped##*=}"'
+                ' ;; *,*) tell "z 5" ;; *) tell "z 3" ;; esac')
         for shell in known(PIPES):
             self.assertEqual(self.run_stub(shell, play, words), (BYTES + b"\0b\n\0", "", 0), shell)
             for left, given, shown in (('tell "o $OTHER"', b"bytes", b"bytes"),
@@ -287,7 +288,8 @@ class Stub(unittest.TestCase):
     def test_forms_of_genomecov(self):
         for shell in known(PIPES):
             for line, wanted in (*FORMS, *zip(NO_FORMS, NO_FORMS)):
-                found = self.run_stub(shell, 'printf "%s," "$@" > given; tell "o $OTHER"', ["genomecov", *line.split(" ")])
+                play = 'printf "%s," "$@" > given; tell "o $OTHER"'
+                found = self.run_stub(shell, play, ["genomecov", *line.split(" ")])
                 self.assertEqual(found[0], self.shown("other", ["genomecov", *line.split(" ")], f":{self.other}"), line)
                 self.assertEqual((self.top / "given").read_text(encoding="utf-8"),
                                  ",".join(["genomecov", *wanted.split(" "), ""]), (shell, line))
@@ -306,7 +308,8 @@ class Stub(unittest.TestCase):
             env = environment(PLAY="tell d; exec 2> /dev/null; yes 'chr1	0	9	1' | head -n 99999 || exit 121")
             found = call(["bash", "-c", f"{program} | head -n 1; exit ${{PIPESTATUS[0]}}"], self.top, env)
             self.assertEqual(found, (b"chr1\t1\t1\n", "", 141), shell)
-            for script in (f"{program} > /dev/full", f"{program} >&-", f"trap '' PIPE; {program} | true; exit ${{PIPESTATUS[0]}}"):
+            for script in (f"{program} > /dev/full", f"{program} >&-",
+                           f"trap '' PIPE; {program} | true; exit ${{PIPESTATUS[0]}}"):
                 self.assertEqual(call(["bash", "-c", script], self.top, env), (b"", fault, 1), (shell, script))
             self.assertEqual(self.run_stub(shell, "tell d; kill -s KILL $$", words)[2], -signal.SIGKILL, shell)
             words = ["genomecov", "-max", "9", "-i", "x", "-g", "g"]
