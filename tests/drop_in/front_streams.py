@@ -111,7 +111,8 @@ def try_losses(place, folder, count):
     if is_busy("a feeder that is killed"):
         return
     slow = "(head -n 4000 a.bed; sleep 2; tail -n 4000 a.bed)"
-    child = start(f"{slow} | bedtools merge > /dev/null; exit ${{PIPESTATUS[1]}}", place, folder, DUNEKETTLE_ROOM="1000")
+    script = f"{slow} | bedtools merge > /dev/null; exit ${{PIPESTATUS[1]}}"
+    child = start(script, place, folder, DUNEKETTLE_ROOM="1000")
     time.sleep(1)
     feeders = [pid for pid, comm in started_by(child.pid) if comm == "drop-in"]
     for pid in feeders:

@@ -271,8 +271,8 @@ class Stub(unittest.TestCase):
 
     def test_two_gzip_files(self):
         words = ["subtract", "-a", self.zipped("a.gz", BYTES), "-b", self.zipped("b.gz", b"b\n")]
-        play = ('case $unzipped in *,*,*) tell d; first=${unzipped#,3=}; eval "cat <&${first%%,*}; cat <&${unzipped##*=}"'
-                ' ;; *,*) tell "z 5" ;; *) tell "z 3" ;; esac')
+        play = ('case $unzipped in *,*,*) tell d; first=${unzipped#,3=}; '
+                'eval "cat <&${first%%,*}; cat <&${unzipped##*=}" ;; *,*) tell "z 5" ;; *) tell "z 3" ;; esac')
         for shell in known(PIPES):
             self.assertEqual(self.run_stub(shell, play, words), (BYTES + b"\0b\n\0", "", 0), shell)
             for left, given, shown in (('tell "o $OTHER"', b"bytes", b"bytes"),
