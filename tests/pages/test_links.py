@@ -68,7 +68,7 @@ WHERE = [*PAGES, *(file for pattern in OTHERS for file in sorted(TOP.glob(patter
 # Numbers that several files say, each with what it is. Each of them may be said only once in a file.
 SAME = {
     "how much text is kept": {
-        "crates/drop_in/src/system.rt": r"^const ROOM: usize = ([\d_]+);",
+        "crates/drop_in/src/system.rt": r"const ROOM: usize = ([\d_]+);",
         "front/*.sh": r"DUNEKETTLE_ROOM:-(\d+)", "docs/MIGRATING.md": r"DUNEKETTLE_ROOM=BYTES`[^\n]*?: ([\d,]+)",
         "man/dunekettle.1": r"keeps in memory: (\d+)"},
     "which inputs are small": {
@@ -279,9 +279,9 @@ def unnamed():
 
 
 def said_in(pattern, name):
-    """What the files of a name say of a number, each number without commas."""
+    """What the files of a name say of a number, each number without commas or underscores."""
     text = "".join(file.read_text(encoding="utf-8") for file in sorted(TOP.glob(name)))
-    return [tuple(part.replace(",", "").rstrip(".") for part in found.groups()) for found in re.finditer(pattern, text)]
+    return [tuple(re.sub("[,_]", "", part).rstrip(".") for part in found.groups()) for found in re.finditer(pattern, text)]
 
 
 def unequal():
