@@ -1,5 +1,5 @@
 # shellcheck shell=sh disable=SC2034,SC2154
-# Files without a name, work in the background, and notes of it: read by the drop-in of `dunekettle`. Whatever ends
+# Files without a name, and work in the background: read by the drop-in of `dunekettle`. Whatever ends
 # before its end, or finds no room, has to be seen: a tool by its status, or by a last line that only it writes.
 
 # open_files NAME..: opens an empty file for each, and sets `dk_NAME` to where it is. Its name in TMPDIR is gone by
@@ -47,25 +47,6 @@ await() {
     return "$1"
 }
 
-# is_running PROCESS: whether it is there, and not its status alone
-is_running() {
-    [ -e "/proc/$1" ] || return
-    dk_line=''
-    { IFS= read -r dk_line < "/proc/$1/stat"; } 2> /dev/null
-    # If it can't be read for now, it runs until it is gone.
-    case ${dk_line##*")"} in " Z"* | " X"*) return 1 ;; esac
-}
-
-# started PROCESS: sets `dk_started` to when it was, by which one is known whose number is given to another later
-started() {
-    dk_started=''
-    IFS= read -r dk_line < "/proc/$1/stat" || return
-    # shellcheck disable=SC2086
-    set -- ${dk_line##*") "}
-    shift 19
-    dk_started=$1
-} 2> /dev/null
-
 # finish STATUS: ends as a process did that had this status
 finish() {
     [ "$1" -le 128 ] || as_signalled "$(kill -l "$1")" "$1"
@@ -81,23 +62,4 @@ writes_none() {
         LC_ALL=C grep -aoE -m 1 -e "$dk_pattern" -e '^end$' > "$dk_spare" &
     await $! && IFS= read -r dk_line < "$dk_spare" && [ "$dk_line" = end ]
 }
-
-# Notes are in a pipe, since a full disk has no room for them.
-
-# open_notes: sets `dk_notes` to its descriptor
-open_notes() { open_pipe && dk_notes=$dk_pipe; }
-
-# note WORD WORD: writes a line to the notes
-note() { printf '%s\n' "$*" >> "/dev/fd/$dk_notes"; } 2> /dev/null
-
-# read_notes: sets `dk_noted` to the notes since the last time, each between line ends
-read_notes() {
-    dk_noted=$dk_nl
-    note end notes || return
-    while IFS= read -r dk_line && [ "$dk_line" != 'end notes' ]; do dk_noted=$dk_noted$dk_line$dk_nl; done <&"$dk_notes"
-    [ "$dk_line" = 'end notes' ]
-}
-
-# is_noted NOTE: whether it was read
-is_noted() { case $dk_noted in *"$dk_nl$1$dk_nl"*) ;; *) return 1 ;; esac; }
 dk_part=files.sh

@@ -1,27 +1,137 @@
 # shellcheck shell=sh disable=SC2034,SC2154
-# The forms of genomecov, made of -bg and -bga of the program: read by the drop-in of `dunekettle`. The file `dk_names`
-# has the chromosomes in the order in which they come.
+# Calls of genomecov that the program of the drop-in leaves to this script: other orders of chromosomes, one strand,
+# blocks, BAM files, and depths of a million. They are made of -bg and -bga of the program, from files alone: read by
+# the drop-in of `dunekettle`. The file `dk_names` has the chromosomes in the order in which they come. Whatever is
+# uncertain goes to the original.
+#
+#     words.sh    what the words say
+#     files.sh    what all of these use
+#     judge.sh    what is in the files
+#     through.sh  what awk makes of the program's output
 
-# take_genomecov WORD..: becomes the program, or writes what awk makes of its output, or sets `dk_why`
-take_genomecov() {
-    [ "$dk_copied" != known ] || take 'DUNEKETTLE_STREAMS says what its stream has' "$@"
+# cover COMMAND WORD..: becomes the program or the original, or writes what awk makes of the program's output
+cover() {
+    dk_command=$1 dk_why='' dk_children='' dk_folder='' dk_prefix=''
+    shift
+    judge_call "$@"
+    heed_signals
+    [ -n "$dk_why" ] || open_files spans spare genome names || dk_why='TMPDIR takes no file, or too many are open'
+    if [ -z "$dk_why" ]; then
+        if [ -n "$dk_ibam" ]; then cover_alignments
+        elif has_word -split; then cover_blocks
+        else cover_features
+        fi
+    fi
+    [ -n "$dk_why" ] || write_coverage
+    by_original "$dk_why" "$dk_command" "$@"
+}
+
+# judge_call WORD..: sets `dk_why` if the words, the sizes of the files or the original leave the call to that
+judge_call() {
+    read_options "$@"
+    dk_room=${DUNEKETTLE_ROOM:-268435456} dk_small=${DUNEKETTLE_SMALL:-262144}
+    case $dk_room/$dk_small in
+    *[!0-9]*/* | */*[!0-9]*) dk_why='DUNEKETTLE_ROOM or DUNEKETTLE_SMALL is no number'; return ;;
+    esac
+    [ -n "$dk_why" ] || judge_words "$@"
+    [ -n "$dk_why" ] || judge_tools
+    [ -n "$dk_why" ] || judge_worth
+    [ -n "$dk_why" ] || judge_version
+}
+
+# judge_words WORD..: sets `dk_why` if the original has to take them. Sets `dk_form`.
+judge_words() {
+    dk_form=''
+    while [ $# -gt 0 ]; do
+        case $1 in
+        -i | -ibam | -g | -strand | -scale | -max) shift ;;
+        -bg | -bga | -d | -dz) [ -z "$dk_form" ] || dk_why="$dk_form and $1 are two forms"; dk_form=$1 ;;
+        -split) ;;
+        *) dk_why="genomecov $1 isn't known" ;;
+        esac
+        shift
+    done
+    case $dk_strand in '' | + | -) ;; *) dk_why="$dk_strand is no strand" ;; esac
+    case $dk_max in *[!0-9]* | 0* | ??????????*) dk_why="-max $dk_max isn't known" ;; esac
+    case $dk_scale in *[!0-9.]* | *.*.* | .* | *. | ???????????*) dk_why="-scale $dk_scale isn't known" ;; esac
+    case $dk_form in
+    -bg | -bga) [ -z "$dk_max" ] || dk_why="-max beside $dk_form isn't known" ;;
+    *) [ -z "$dk_scale" ] || dk_why="-scale without -bg or -bga isn't known" ;;
+    esac
+    if [ -n "$dk_ibam" ]; then ! has_word -i || dk_why='-i beside -ibam'
+    elif ! has_word -i || [ -z "$dk_g" ]; then dk_why='bedtools needs -i and -g'
+    fi
+}
+
+# judge_tools: sets `dk_why` if something lacks
+judge_tools() {
+    if [ ! -f "$dk_program" ] || [ ! -s "$dk_program" ] || [ ! -x "$dk_program" ]; then
+        dk_why="there is no $dk_program"
+        return
+    fi
+    for dk_tool in awk cat cut df grep head mktemp rm sort tail tr wc; do
+        command -v "$dk_tool" > /dev/null || { dk_why="there is no $dk_tool"; return; }
+    done
     has_parts whole.awk order_genome.awk float.awk histogram.awk each_base.awk scaled.awk bed12_blocks.awk \
         sam_blocks.awk sam_genome.awk || { dk_why='the installation is broken'; return; }
-    tells_failed_writes || { dk_why='awk ends well where a write failed'; return; }
-    open_files names || { dk_why='TMPDIR takes no file, or too many are open'; return; }
-    if [ -n "$dk_ibam" ]; then cover_alignments
-    elif has_word -split; then cover_blocks
-    else cover_features
+    tells_failed_writes || dk_why='awk ends well where a write failed'
+}
+
+# judge_worth: sets `dk_why` where the original is quicker than a look at the files. It goes over each base of the
+# genome.
+judge_worth() {
+    dk_input=${dk_ibam:-$dk_i}
+    for dk_file in "$dk_input" ${dk_g:+"$dk_g"}; do
+        if is_stream "$dk_file"; then dk_why="$dk_file is a stream"; return; fi
+    done
+    if [ ! -f "$dk_input" ] || [ ! -r "$dk_input" ]; then dk_why="$dk_input is no file that can be read"; return; fi
+    dk_bytes=$(($(wc -c < "$dk_input")))
+    if [ -n "$dk_ibam" ]; then
+        alignments_pay || dk_why='bedtools goes over its genome as quickly, or there is no samtools'
+        return
     fi
+    # With lines of 50 bytes
+    if [ "$dk_bytes" -lt "$((dk_small * 6))" ] && ! is_large_genome; then
+        find_original
+        [ -z "$dk_original" ] || dk_why='its inputs are small'
+    fi
+}
+
+# alignments_pay: whether samtools is there, and the genome of -ibam is large beside its bytes
+alignments_pay() {
+    command -v samtools > /dev/null || return
+    samtools view -H "$dk_ibam" < /dev/null 2> /dev/null | LC_ALL=C awk -v bytes="$dk_bytes" '
+        /^@SQ/ && match($0, /\tLN:[0-9]+/) { bases += substr($0, RSTART + 4, RLENGTH - 4) }
+        END { exit bases < 20000000 || bases < bytes * 2 }' > /dev/null
+}
+
+is_large_genome() {
+    LC_ALL=C awk -F '\t' '{ bases += $2 } END { exit bases < 20000000 }' < "$dk_g" > /dev/null 2>&1
+}
+
+# judge_version: sets `dk_why` if the original isn't one that all was compared with, and the words aren't some for which
+# all versions write the same
+judge_version() {
+    case $dk_words in *' -strand '* | *' -split '* | *' -scale '* | *' -ibam '*) ;; *' -bg '*) return ;; esac
+    find_original
+    [ -n "$dk_original" ] || return 0
+    case $(DUNEKETTLE_TRIED=${DUNEKETTLE_TRIED-}:$dk_original "$dk_original" --version < /dev/null 2> /dev/null) in
+    'bedtools v2.30.0'* | 'bedtools v2.31.'*) ;;
+    *) dk_why="what $dk_original does with these words wasn't tried" ;;
+    esac
+}
+
+# write_coverage: writes what the words ask for, of the file `dk_i` with the genome file `dk_genome`
+write_coverage() {
     [ -z "$dk_names" ] || close_files "$dk_names"
-    [ -z "$dk_why" ] || return 0
     set -- -i "$dk_i" -g "$dk_genome" ${dk_strand:+-strand "$dk_strand"}
     case $dk_form in
     -d | -dz | '') write_form "$@" -bga ;;
     esac
     set -- "$@" "$dk_form"
     if [ -n "$dk_scale" ] || is_deep "$@"; then write_form "$@"; fi
-    take 'its words and its files are as it takes them' "$@"
+    close_files "$dk_spans" "$dk_spare"
+    by_program 'its words and its files are as it takes them' "$dk_command" "$@"
 }
 
 # look_at_chromosomes FILE: sets `dk_why` unless each line of it is a chromosome that bedtools reads as such
@@ -122,12 +232,12 @@ cover_alignments() {
     [ -n "$dk_why" ] || look_at_blocks
 }
 
-# find_blocks: writes the blocks of the alignments, of at most 16 times as much text as a stream may have. Those behind
-# the first of a read are sorted, into the file `dk_later`.
+# find_blocks: writes the blocks of the alignments, of at most four times as much text as a stream may have. Those
+# behind the first of a read are sorted, into the file `dk_later`.
 find_blocks() {
-    dk_most=$((dk_room * 16)) dk_gaps=''
+    dk_most=$((dk_room * 4)) dk_gaps=''
     ! has_word -split || dk_gaps=1
-    has_room "$((dk_most * 4))" || dk_most=$((dk_room * 2))
+    has_room "$((dk_most * 4))" || dk_most=$((dk_room / 2))
     open_blocks "$((dk_most * 4))"
     [ -n "$dk_why" ] || open_files later || dk_why='TMPDIR takes no file, or too many are open'
     [ -z "$dk_why" ] || return 0

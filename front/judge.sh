@@ -18,26 +18,6 @@ for dk_round in 1 2 3 4; do dk_kilobyte=$dk_kilobyte$dk_kilobyte$dk_kilobyte$dk_
 # bedtools cuts a line as it writes it, when a start may have eight digits more.
 dk_kilobyte=${dk_kilobyte#????????}
 
-# look_at_features FILE..: sets `dk_why` for merge, complement, intersect and subtract
-look_at_features() {
-    [ -z "$dk_g" ] || look_at_genome "$dk_g"
-    for dk_input; do
-        [ -z "$dk_why" ] || return 0
-        [ "$dk_copied" != known ] || ! is_stream "$dk_input" || continue
-        look_at_feature "$dk_input"
-        case $dk_why in *'record is out of order') ! find_order "$@" || look_at_feature "$dk_input" ;; esac
-    done
-}
-
-# look_at_feature FILE
-look_at_feature() {
-    look_at "$1" "$dk_g"
-    [ -n "$dk_why" ] || look_closer "$1" "$dk_g"
-    [ -z "$dk_why" ] || return
-    [ -z "$dk_f" ] || [ "$1" != "$dk_a" ] && ! has_word -r || has_short_records "$1" "$dk_g" ||
-        dk_why='bedtools compares -f by seven digits, too few for the longest records'
-}
-
 # look_at FILE [GENOME]: sets `dk_why` if merge doesn't take it, or if bedtools passes over lines of it or cuts them;
 # else fills `dk_spans`
 look_at() {
@@ -92,23 +72,6 @@ has_short_lines() {
     await $! && IFS= read -r dk_line < "$dk_spare" && [ "$dk_line" = 1 ]
 }
 
-# look_at_genome FILE: a comment with a tab is a chromosome of bedtools, which cuts names at a NUL, and long ones
-look_at_genome() {
-    LC_ALL=C awk -F '\t' '/^#.*\t/ || length($1) > 900 { exit 1 }' < "$1" > /dev/null 2>&1 ||
-        dk_why="$1 has a comment with a tab, or a name of over 900 bytes"
-    [ "$(LC_ALL=C tr -dc '\000' < "$1" | wc -c)" -eq 0 ] || dk_why="$1 has a NUL"
-}
-
-# look_closer FILE [GENOME]: sets `dk_why` if bedtools writes something else for what this file has, silently
-look_closer() {
-    case $dk_command$dk_words in
-    intersect*' -s '* | subtract*' -s '*)
-        has_strands '[-+]' "$1" || dk_why="$1 has records without a strand"
-        ;;
-    complement*) ends_fit "$2" || dk_why="$1 goes past the end of a chromosome" ;;
-    esac
-}
-
 # has_strands PATTERN FILE: whether the sixth column of each record is one of these letters alone
 has_strands() {
     LC_ALL=C grep -qavE "^(#|track|browser|([^$dk_tab]*$dk_tab){5}$1($dk_tab|$dk_cr?\$))" < "$2" &
@@ -116,63 +79,8 @@ has_strands() {
     [ $? = 1 ]
 }
 
-# ends_fit GENOME: whether each end is in its chromosome
-ends_fit() {
-    write_both "$dk_spans" "$1" | LC_ALL=C awk -F '\t' '
-        $0 == "\t" { parts++; next }
-        !parts { end[$1] = $3 + 0; next }
-        !/^#/ && end[$1] > $2 + 0 { is_past = 1 }
-        END { exit is_past || parts != 2 }' > /dev/null
-}
-
 # write_both FILE FILE: writes them, after each a line with a tab alone. Where one is missing, what came was cut off.
 write_both() { cat < "$1" && printf '\t\n' && cat < "$2" && printf '\t\n'; }
-
-# has_short_records FILE [GENOME]: whether 32-bit numbers compare the fraction of -f as exactly as billionths. No record
-# may share so large a part of `dk_far` bases as the length up to which they do.
-has_short_records() {
-    dk_digits=${dk_f#*.} dk_limit=16777
-    [ "$dk_digits" != "$dk_f" ] || dk_digits=''
-    while [ -n "$dk_digits" ]; do
-        [ -z "${dk_digits##*[!0]*}" ] || break
-        dk_digits=${dk_digits%?} dk_limit=$((dk_limit / 10))
-    done
-    [ "$dk_limit" -gt 0 ] && open_files whole || return
-    widen_spans && writes_none "$dk_tab" "$dk_program" intersect -u -r -f "$(printf '0.%09d' "$dk_limit")" \
-        -a "$1" -b "$dk_whole" ${2:+-g "$2"}
-    set -- $?
-    close_files "$dk_whole"
-    return "$1"
-}
-
-# widen_spans: fills the file `dk_whole` with all chromosomes, each as a record of `dk_far` bases
-widen_spans() {
-    LC_ALL=C awk -F '\t' -v OFS='\t' -v end="$dk_far" '{ print $1, 0, end }' < "$dk_spans" > "$dk_whole" || return
-    dk_lines=$(wc -l < "$dk_spans") && [ "$dk_lines" = "$(wc -l < "$dk_whole")" ]
-}
-
-# find_order FILE..: puts the chromosomes of all files into `dk_genome`, in an order that fits each, if there is one and
-# bedtools takes any: so it does without -g and -sorted
-find_order() {
-    [ -z "$dk_g" ] && [ "$dk_copied" != known ] && ! has_word -sorted || return
-    for dk_file; do
-        LC_ALL=C cut -f 1 < "$dk_file" | LC_ALL=C uniq
-        printf '\t\n'
-    done 2> /dev/null | LC_ALL=C awk -f "$dk_files/common_order.awk" > "$dk_genome" 2> /dev/null &
-    await $! || return
-    # What was cut off lacks chromosomes, or their order: the next look finds that.
-    dk_why='' dk_g=$dk_genome dk_ordered=1
-}
-
-# judge_alignments: sets `dk_why` unless the input of bamtobed begins as SAM text, or as BAM
-judge_alignments() {
-    dk_line=''
-    IFS= read -r dk_line < "$dk_i"
-    case $dk_line in
-    @* | "$dk_zipped"*) ;;
-    *) dk_why="$dk_i isn't SAM text with header lines, and no BAM" ;;
-    esac
-} 2> /dev/null
 
 # is_bam FILE
 is_bam() { [ "$(gzip -dc < "$1" 2> /dev/null | head -c 3)" = BAM ]; }

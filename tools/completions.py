@@ -27,12 +27,10 @@ VARIABLES = {
                          " which report reads",
     "DUNEKETTLE_WARN=0": "the drop-in doesn't warn of lines on which bedtools loses or changes output silently",
     "DUNEKETTLE_ALWAYS=1": "the drop-in never runs your bedtools",
-    "DUNEKETTLE_STREAMS=1": "the drop-in takes standard input and pipes for sorted BED, without lines that bedtools"
-                            " treats differently",
     "DUNEKETTLE_ROOM=0": "the drop-in leaves all pipes and .gz files to your bedtools; a number instead of 0 is how"
-                         " many bytes of one it keeps to check it",
-    "DUNEKETTLE_SMALL=0": "the drop-in checks inputs of any size; a number of bytes instead of 0 scales the size from"
-                          " which on it checks some calls",
+                         " many bytes of their text it keeps",
+    "DUNEKETTLE_SMALL=0": "the drop-in checks files of any size for genomecov; a number of bytes instead of 0 is a sixth"
+                          " of the size from which on it checks some forms",
 }
 
 

@@ -14,17 +14,20 @@ NEEDY = (
     "complement -i past_end.bed -g g.txt", "maskfasta -fi cut.fa -bed cut.bed -fo masked.fa",
     "bamtobed -i zero_pos.sam",
 )
-# The script, and a call that it takes.
+# The script that takes what the program leaves to it.
 SCRIPT = "lib/dunekettle/script/bedtools"
 PARTS = (
     *(f"lib/dunekettle/{name}.sh"
-      for name in ("words", "worth", "files", "copies", "streams", "pour", "judge", "plan", "hints")),
+      for name in ("words", "files", "judge", "through", "genomecov", "forms", "gzip", "hints")),
     "bin/dunekettle-bedtools", "lib/dunekettle/help.txt", "lib/dunekettle/drop-in", SCRIPT,
 )
-FORM = "genomecov -i f.bed -g g.txt"
-# The parts that all forms need, and those of some calls.
-BOTH = ("through.sh", "whole.awk")
-NEEDED = {FORM: ("genomecov.sh", "order_genome.awk", "float.awk", "histogram.awk")}
+# A call of which awk makes what the program writes, and one that the script takes, with the parts that each needs.
+FORM, STRAND = "genomecov -i f.bed -g g.txt", "genomecov -bga -strand + -i f.bed -g g.txt"
+NEEDED = {
+    FORM: ("whole.awk", "float.awk", "histogram.awk"),
+    STRAND: ("words.sh", "files.sh", "judge.sh", "through.sh", "genomecov.sh", "whole.awk", "order_genome.awk",
+             "float.awk", "histogram.awk"),
+}
 
 
 def given(line):
@@ -71,19 +74,20 @@ def broken_place(top, part, how):
     return broken
 
 
-def try_broken_part(part, how, wanted_form, folder, count):
-    """The program of the drop-in runs a call; the script does if that is broken, and takes what it leaves."""
-    top = folder.parent
+def try_broken_part(part, how, wanted, folder, count):
+    """What works answers as ever, and the original takes the other calls."""
+    top, name = folder.parent, Path(part).name
     broken = broken_place(top, part, how)
     env = with_path(drop_in(broken), top / "tools", top / "says")
     output, _, status = call(["bedtools", "merge", "-i", "f.bed"], folder, env)
-    is_lost = part == SCRIPT and how == "missing"
+    is_lost = part == SCRIPT and how == "missing" or name == "drop-in"
     count.expect(f"{part} {how}", (given("merge -i f.bed"), 7) if is_lost else (MERGED, 0), (output, status))
-    if part == SCRIPT and not is_lost:
+    if part == SCRIPT:
         return
-    is_needed = "help" not in part and "hints" not in part and "drop-in" not in part
-    output, _, status = call(["bedtools", *FORM.split()], folder, env)
-    count.expect(f"{part} {how}: {FORM}", (given(FORM), 7) if is_needed else wanted_form, (output, status))
+    for line, answer in wanted.items():
+        output, _, status = call(["bedtools", *line.split()], folder, env)
+        is_needed = line == STRAND and (name in NEEDED[STRAND] or name == "dunekettle-bedtools")
+        count.expect(f"{part} {how}: {line}", (given(line), 7) if is_needed else answer, (output, status))
     count.expect(f"{part} {how}: --version", (b"bedtools v2.30.0\n", "", 0),
                  call(["bedtools", "--version"], folder, env))
     if "bedtools" not in part and how != "half":
@@ -93,12 +97,14 @@ def try_broken_part(part, how, wanted_form, folder, count):
 
 def try_broken_parts(place, folder, count):
     """A call answers as ever, or the original takes it."""
-    top = folder.parent
-    output, _, status = call([drop_in(place) / "bedtools", *FORM.split()], folder, looking())
+    top, wanted = folder.parent, {}
+    for line in NEEDED:
+        output, _, status = call([drop_in(place) / "bedtools", *line.split()], folder, looking())
+        wanted[line] = output, status
     for part in PARTS:
         for how in ("missing", "empty", "half", "a folder"):
-            try_broken_part(part, how, (output, status), folder, count)
-    for part in sum(NEEDED.values(), BOTH):
+            try_broken_part(part, how, wanted, folder, count)
+    for part in dict.fromkeys(part for part in sum(NEEDED.values(), ()) if part.endswith(".awk")):
         for how in ("missing", "empty"):
             broken = install(top / f"{part} {how}")
             (broken / "lib" / "dunekettle" / part).unlink()
@@ -106,7 +112,7 @@ def try_broken_parts(place, folder, count):
                 (broken / "lib" / "dunekettle" / part).touch()
             env = with_path(drop_in(broken), top / "tools", top / "says")
             for line, names in NEEDED.items():
-                count.expect(f"{part} {how}: {line}", 7 if part in (*BOTH, *names) else 0,
+                count.expect(f"{part} {how}: {line}", 7 if part in names else 0,
                              call(["bedtools", *line.split()], folder, env)[2])
 
 

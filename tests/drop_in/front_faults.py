@@ -13,8 +13,7 @@ from pathlib import Path
 from front_tools import call, drop_in, looking, original
 
 # What the drop-in calls. What a script of the trial calls itself has a whole path.
-HELPERS = ("awk", "cat", "cmp", "cut", "df", "grep", "gzip", "head", "mktemp", "od", "rm", "samtools", "sleep", "sort",
-           "tail", "tr", "uniq", "wc")
+HELPERS = ("awk", "cat", "cut", "df", "grep", "gzip", "head", "mktemp", "rm", "samtools", "sort", "tail", "tr", "wc")
 FAKE = """#!/bin/sh
 call=1
 until mkdir "$CALLS/TOOL $call" 2> /dev/null; do call=$((call + 1)); done
@@ -40,17 +39,15 @@ SCRIPTS = (
     "bedtools genomecov -dz -i a.bed -g g.txt", "bedtools genomecov -bg -scale 0.3 -i a.bed -g g.txt",
     "bedtools genomecov -bg -split -i blocks.bed -g g.txt", "bedtools genomecov -bga -split -i blocks.bed -g g.txt",
     "bedtools genomecov -bg -i deep.bed -g g.txt",
-    "bedtools genomecov -bga -split -ibam r.bam", "bedtools genomecov -ibam r.bam", "bedtools bamtobed -i r.sam",
-    "bedtools bamtobed -split -i odd.sam", "bedtools bamtobed -split -i r.bam",
+    "bedtools genomecov -bga -split -ibam r.bam", "bedtools genomecov -ibam r.bam",
+    "bedtools genomecov -d -i a.bed.gz -g g.txt", "bedtools intersect -wo -a a.bed.gz -b b.bed",
+    "bedtools genomecov -d -i natural.bed -g g.txt", "CAT a.bed | bedtools genomecov -i - -g g.txt",
     "CAT a.bed | bedtools merge", "bedtools intersect -u -a <(CAT a.bed) -b <(CAT b.bed)",
     "bedtools genomecov -bga -i <(CAT natural.bed) -g <(CAT g.txt)",
     "CAT a.bed | DUNEKETTLE_ROOM=500 bedtools merge",
     "DUNEKETTLE_ROOM=500 bedtools intersect -sorted -u -a <(CAT a.bed) -b <(CAT b.bed)",
     "DUNEKETTLE_ROOM=500 bedtools intersect -sorted -c -a <(CAT a.bed) -b <(SLEEP 0.3; CAT few.bed)",
     "CAT a.bed.gz | bedtools merge -i -",
-    *(f"RM -f {p} {q}; MKFIFO {p} {q}; TIMEOUT 20 BASH -c 'CAT a.bed > {p}; CAT b.bed > {q}' > /dev/null 2>&1 & "
-      f"{room}bedtools intersect -sorted -u -a {p} -b {q}"
-      for room, p, q in (("", "p", "q"), ("DUNEKETTLE_ROOM=500 ", "r", "s"))),
 )
 NAMES = ("chr1", "chr10", "chr2", "chr3", "chrX")
 NATURAL = ("chr1", "chr2", "chr3", "chr10", "chrX")
@@ -100,7 +97,7 @@ def fill(folder):
 
 def answer(script, folder, env):
     """What a script answers: its bytes, its status, and whether it said something."""
-    for tool in ("CAT", "SLEEP", "RM", "MKFIFO", "TIMEOUT", "BASH"):
+    for tool in ("CAT", "SLEEP"):
         script = script.replace(tool, shutil.which(tool.lower()))
     output, said, status = call(["bash", "-c", f"set -o pipefail; {script}"], folder, env)
     return output, status, said

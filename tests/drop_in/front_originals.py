@@ -7,8 +7,8 @@ from front_tools import PROGRAM, call, drop_in, fake, install, looking, shell, t
 
 # What follows a message where there is no other bedtools.
 ALONE = WHOSE.replace(", which ran this call instead of bedtools", ": there is no other bedtools on PATH")
-DOUBT = ("dunekettle: there is no other bedtools on PATH, and Dunekettle may write something else: crlf.bed "
-         "has a blank line, CR CR, or a header line of VCF\n")
+DOUBT = ("dunekettle: there is no other bedtools on PATH, and Dunekettle may write something else: crlf.bed: "
+         "a blank line\n")
 # Words that an original gets as they are.
 GIVEN = (
     ["sort", "a b", "", "line\nfeed", "*", "-i", "\\", "'\"$(x)"], ["merge", "-i", "a\nnone.bed"],

@@ -175,7 +175,7 @@ def try_left_folders(place, folder, count):
         return
     dice, temporary = random.Random(81), folder.parent / "any time"
     temporary.mkdir()
-    for script in ("merge -i a.bed", "intersect -wa -wb -a few.bed -b a.bed"):
+    for script in ("genomecov -bga -strand + -i a.bed -g g.txt", "genomecov -d -i a.bed -g g.txt"):
         for sent in (signal.SIGTERM, signal.SIGINT, signal.SIGHUP, signal.SIGPIPE):
             for _ in range(60):
                 with subprocess.Popen([drop_in(place) / "bedtools", *script.split()], cwd=folder,
@@ -191,29 +191,6 @@ def try_left_folders(place, folder, count):
                 shutil.rmtree(path)
 
 
-def try_reused_numbers(place, folder, count):
-    """A feeder is ended only if its number isn't that of a process that was started later."""
-    parts = place / "lib" / "dunekettle"
-    for is_same in (True, False):
-        script = f"""
-            dk_nl='\n'
-            . "{parts}/files.sh"; . "{parts}/pour.sh"
-            end_with_children() {{ echo "ended $1"; }}
-            read_notes() {{ dk_noted="$dk_nl"feeder\\ "$noted$dk_nl"; }}
-            sleep 60 & other=$!
-            started "$other"
-            noted=$other:{'$dk_started' if is_same else '1'}
-            dk_lost=''
-            end_feeders
-            echo "lost $dk_lost"
-            kill "$other" """
-        for words in SHELLS:
-            output, _, _ = call([*words, "-c", script], folder, looking())
-            count.expect(f"{words[0]}: a feeder {'that runs' if is_same else 'whose number is reused'}",
-                         (is_same, b"lost \n" if is_same else b"lost 1\n"),
-                         (b"ended " in output, output.splitlines(True)[-1]))
-
-
 def try_others(place, folder, count):
     """All of these, in a folder with a.bed and g.txt."""
     for name in ("b.bed", "c.bed"):
@@ -221,7 +198,6 @@ def try_others(place, folder, count):
     lines = (folder / "a.bed").read_text(encoding="utf-8").splitlines(keepends=True)
     (folder / "few.bed").write_text("".join(lines[:9]), encoding="utf-8")
     (folder / "unsorted.bed").write_text("chr1\t9\t12\nchr1\t2\t6\n", encoding="utf-8")
-    for trial in (try_links, try_copies, try_tell, try_options_of_shells, try_failed_opens, try_left_folders,
-                  try_reused_numbers):
+    for trial in (try_links, try_copies, try_tell, try_options_of_shells, try_failed_opens, try_left_folders):
         trial(place, folder, count)
     print("known:", *KNOWN, sep="\n  ")

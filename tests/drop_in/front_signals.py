@@ -12,23 +12,20 @@ from pathlib import Path
 from front_hints import FILES, MERGED, WHOSE
 from front_tools import call, drop_in, is_busy, looking, shell, with_path
 
-# Calls whose standard input Dunekettle takes; those that it takes where there is one to look at, of which the program
-# of the drop-in takes some that are empty; and those that bedtools takes.
-KNOWN = (
+# Calls whose standard input Dunekettle takes, also an empty one; and those that bedtools takes.
+OURS = (
     "intersect -sorted -a - -b f.bed -u -g g.txt", "complement -i - -g g.txt",
     "intersect -g g.txt -sorted -u -a f.bed -b /dev/stdin", "merge -i -", "merge", "complement -i stdin -g g.txt",
     "intersect -a - -b f.bed -u", "intersect -sorted -a - -b f.bed -u", "genomecov -bg -i - -g g.txt",
     "subtract -a f.bed -b /dev/fd/0", "merge -i link.bed", "merge -i /dev/./stdin",
-)
-NATIVE = (
     "intersect -sorted -g g.txt -s -u -a - -b f.bed", "intersect -f 0.5 -u -a - -b f.bed",
-    "genomecov -bga -i - -g g.txt", "merge -S + -i -",
+    "genomecov -bga -i - -g g.txt", "merge -S + -i -", "genomecov -i - -g g.txt", "genomecov -d -i - -g g.txt",
+    "genomecov -bg -scale 2 -i - -g g.txt",
 )
-SEEN = (*NATIVE, "genomecov -i - -g g.txt")
 THEIRS = (
     "intersect -sorted -a - -b /dev/stdin", "bamtobed", "bamtobed -i -", "maskfasta -fi s.fa -bed -",
     "maskfasta -fi - -bed f.bed", "complement -g g.txt", "genomecov -bg -g g.txt", "merge -i f.bed.gz -",
-    "intersect -sorted -u -a - -b unsorted.bed",
+    "intersect -sorted -u -a - -b unsorted.bed", "genomecov -split -i - -g g.txt", "complement -i f.bed -g -",
 )
 # Calls whose output is longer than a pipe holds.
 LONG = (
@@ -72,60 +69,40 @@ def try_closed_streams(place, folder, count):
                 count.expect(f"bedtools {line} {streams}", (wanted[0], told, wanted[2]), judged)
 
 
-def is_taken(line, source, asked):
-    """Whether Dunekettle takes a stream. The program takes an empty one; the script copies no device."""
-    if line in KNOWN:
-        return True
-    return line in SEEN and bool(source or asked == "0" and line in NATIVE) and (asked == "0" or "-S" not in line)
-
-
 def try_sources(place, folder, count):
-    """A stream is copied and looked at, unless DUNEKETTLE_STREAMS says that it is sorted BED. A device isn't copied."""
+    """One stream is read and looked at, and bedtools takes two, or a genome file that is one."""
     alone = with_original(place, folder)
     (folder / "link.bed").symlink_to("/dev/stdin")
-    for line in (*KNOWN, *SEEN, *THEIRS):
-        for asked in ("0", "1"):
-            for source in ("", "< f.bed", "cat f.bed |"):
-                script = f"bedtools {line} {source}" if "|" not in source else f"{source} bedtools {line}"
-                status = shell(script, folder, {**alone, "DUNEKETTLE_STREAMS": asked})[2]
-                count.expect(f"a stream: {script}, STREAMS={asked}", 0 if is_taken(line, source, asked) else 7, status)
+    for line in (*OURS, *THEIRS):
+        for source in ("", "< f.bed", "cat f.bed |"):
+            script = f"bedtools {line} {source}" if "|" not in source else f"{source} bedtools {line}"
+            count.expect(f"a stream: {script}", 7 if line in THEIRS else 0, shell(script, folder, alone)[2])
     (folder / "link.bed").unlink()
-    found = call(["bedtools", "merge"], folder, {**alone, "DUNEKETTLE_STREAMS": "1"}, input=FILES["f.bed"])
-    count.expect("STREAMS", (MERGED, "", 0), found)
-    for line in ("merge -i <(cat f.bed)", "complement -i <(cat f.bed) -g g.txt", "complement -i f.bed -g <(cat g.txt)",
-                 "intersect -sorted -g g.txt -u -a f.bed -b <(cat f.bed)",
-                 "intersect -u -a <(cat f.bed) -b <(cat f.bed)", "genomecov -i <(cat f.bed) -g <(cat g.txt)"):
-        count.expect(f"a pipe of a shell: {line}", 0, call(["bash", "-c", f"bedtools {line}"], folder, alone)[2])
-        count.expect(f"a pipe of a shell: {line}, STREAMS", 0,
-                     call(["bash", "-c", f"bedtools {line}"], folder, {**alone, "DUNEKETTLE_STREAMS": "1"})[2])
+    for line, status in (("merge -i <(cat f.bed)", 0), ("complement -i <(cat f.bed) -g g.txt", 0),
+                         ("intersect -sorted -g g.txt -u -a f.bed -b <(cat f.bed)", 0),
+                         ("genomecov -i <(cat f.bed) -g g.txt", 0), ("complement -i f.bed -g <(cat g.txt)", 7),
+                         ("intersect -u -a <(cat f.bed) -b <(cat f.bed)", 7),
+                         ("genomecov -i <(cat f.bed) -g <(cat g.txt)", 7)):
+        count.expect(f"a pipe of a shell: {line}", status, call(["bash", "-c", f"bedtools {line}"], folder, alone)[2])
 
 
 def try_named_pipes(place, folder, count):
-    """The writer of two may open them in any order, and two links aren't opened in the background."""
+    """One named pipe is taken; of two none is opened."""
     alone = with_original(place, folder)
-    os.mkfifo(folder / "pipe")
-    count.expect("a named pipe", 0, shell("cat f.bed > pipe & bedtools complement -i pipe -g g.txt", folder, alone)[2])
-    os.mkfifo(folder / "other")
-    patient = f"{shutil.which('timeout')} 20"
-    for first, second in ("g.txt > other", "f.bed > pipe"), ("f.bed > pipe", "g.txt > other"):
-        script = f"(cat {first}; cat {second}) & {patient} bedtools complement -i pipe -g other"
-        count.expect(f"two named pipes, {first} first", 0, shell(script, folder, alone)[2])
     for name in ("pipe", "other"):
-        (folder / f"link to {name}").symlink_to(name)
-    found = shell("bedtools complement -i 'link to pipe' -g 'link to other'", folder, alone)
-    count.expect("links to two named pipes", 7, found[2])
-    for name in ("link to pipe", "link to other", "pipe", "other"):
+        os.mkfifo(folder / name)
+    count.expect("a named pipe", 0, shell("cat f.bed > pipe & bedtools complement -i pipe -g g.txt", folder, alone)[2])
+    words = ["bedtools", "intersect", "-u", "-a", "pipe", "-b", "other"]
+    count.expect("two named pipes", 7, call(words, folder, alone)[2])
+    for name in ("pipe", "other"):
         (folder / name).unlink()
 
 
 def try_unreadable(place, folder, count):
-    """A stream that can't be read, and one that can't be copied."""
+    """A stream that can't be read."""
     alone = with_original(place, folder)
     count.expect("a stream of which nothing can be read", (b"merge\0", "", 7),
                  shell("bedtools merge < .", folder, alone))
-    lost = "dunekettle: a stream is lost: it cannot be read, or TMPDIR has no room for it\n"
-    count.expect("a stream that can't be copied", (b"", lost, 1),
-                 shell("bedtools intersect -u -a - -b <(cat f.bed) < .", folder, alone))
 
 
 def try_signals(place, folder, count):

@@ -1,11 +1,11 @@
 #!/usr/bin/env python3
-"""Tries what may go wrong with streams that the drop-in reads or copies, and with its files in TMPDIR.
+"""Tries what may go wrong with streams and gzip files that the drop-in reads, and with its files in TMPDIR.
 
     tests/drop_in/front_streams.py
 
-A TMPDIR that is missing, read-only, full or a file; endless, slow and long streams; two of one producer; signals while
-a stream is copied, while files are looked at, and while bedtools reads a long stream; a copy that fails; other shells;
-and the folders, named pipes and processes of others, and a redirection that fails (front_others.py).
+A TMPDIR that is missing, read-only, full or a file; endless, slow and long streams; gzip files that are cut; signals
+while a stream or a gzip file is read, while files are looked at, while awk writes, and while bedtools reads a long
+stream; other shells; and the folders and processes of others, and a redirection that fails (front_others.py).
 Each call has to answer as bedtools 2.30.0 does, or to end with a fault, and no file and no process may be left. Ends
 with 1 where something differs, and with 0 and a word where there is no bedtools 2.30.0.
 """
@@ -46,23 +46,18 @@ SCRIPTS = [
     "cat wide.bed | PROGRAM intersect -wo -a a.bed -b -",
     "gzip -c wide.bed > z.gz; PROGRAM intersect -wb -a z.gz -b wide.bed",
     "PROGRAM intersect -wa -wb -a wide.bed -b a.bed | head -n 3",
+    "gzip -c a.bed > z.gz; PROGRAM merge -i z.gz", "gzip -c a.bed > z.gz; PROGRAM intersect -u -a z.gz -b z.gz",
+    "gzip -c a.bed > z.gz; PROGRAM genomecov -d -i z.gz -g g.txt | tail -n 2",
+    "gzip -c a.bed | head -c 9000 > z.gz; PROGRAM subtract -a z.gz -b wide.bed",
+    "(gzip -c wide.bed; gzip -c a.bed) > z.gz; PROGRAM merge -i z.gz",
+    "cat a.bed | PROGRAM genomecov -i - -g g.txt", "cat a.bed | PROGRAM genomecov -bg -scale 0.3 -i - -g g.txt",
+    "PROGRAM genomecov -dz -i <(head -n 99 a.bed) -g g.txt", "PROGRAM genomecov -bg -split -i - -g g.txt < blocks.bed",
 ]
-# Two named pipes, or streams of them, of one producer, which opens and writes them one by one or side by side, and how
-# much of a stream each way needs room for. bedtools alone waits for ever, unless the first is that of -g.
-TWINS = [
-    ("tee q < a.bed > p", "intersect -sorted -u -a p -b q", 0),
-    ("tee q < a.bed > p", "intersect -sorted -u -a q -b p", 0),
-    ("tee q < a.bed > p", "intersect -sorted -u -a <(cat p) -b <(cat q)", 0),
-    ("cat a.bed > p; cat a.bed > q", "intersect -sorted -u -a p -b q", 1_000_000),
-    ("cat a.bed > q; cat a.bed > p", "intersect -sorted -u -a p -b q", 1_000_000),
-    ("cat long.txt > q; cat a.bed > p", "complement -i p -g q", 0),
-    ("cat a.bed > p; cat long.txt > q", "complement -i p -g q", 1_000_000),
-    (": > p; sleep 0.2; cat a.bed > q", "intersect -sorted -v -a q -b p", 0),
-    ("cat a.bed > p; rm p", "intersect -sorted -u -a a.bed -b p", 0),
-    ("head -n 9 a.bed > p; rm p; sleep 0.2; cat a.bed > q", "intersect -sorted -u -a q -b p", 0),
-    ("cat a.bed > p", "intersect -sorted -u -a <(cat a.bed) -b p", 0),
+# Calls whose looks need files in TMPDIR.
+LOOKS = [
+    "PROGRAM genomecov -bga -strand + -i a.bed -g g.txt", "PROGRAM genomecov -split -i blocks.bed -g g.txt",
+    "PROGRAM genomecov -bg -i back.bed -g g.txt",
 ]
-
 
 class Ways(NamedTuple):
     """What a script is run by, where, and what counts it."""
@@ -82,15 +77,14 @@ def compare(name, script, ways, **more):
 
 
 def try_rooms(theirs, place, folder, count):
-    """Streams that are short and long, in the temporary folders that one may have."""
+    """Streams that are short and long, and the temporary folders that one may have."""
     temporary, ways = folder.parent / "temporary", Ways(theirs, place, folder, count)
     temporary.mkdir()
     for room in ("", "200", "70000", "0", "x"):
-        for script in SCRIPTS:
+        for script in (*SCRIPTS, *LOOKS):
             more = {"DUNEKETTLE_ROOM": room} if room else {}
             compare(f"room {room}", script, ways, TMPDIR=str(temporary), **more)
             count.expect(f"what {script} leaves", [], list(temporary.iterdir()))
-    try_twins(theirs, place, folder, temporary, count)
     rooms = {"missing": "/nowhere", "a file": str(folder / "a.bed"), "read-only": "/proc",
              "a folder with a space": str(folder.parent / "a b")}
     (folder.parent / "a b").mkdir()
@@ -102,69 +96,28 @@ def try_rooms(theirs, place, folder, count):
     else:
         print("no mount: a full TMPDIR was tried by a df and a head of our own alone")
     for name, where in rooms.items():
-        for script in SCRIPTS[:8]:
+        for script in (*LOOKS, *SCRIPTS[:8]):
             compare(f"TMPDIR {name}", script, ways, TMPDIR=where)
     if "full" in rooms:
         subprocess.run(["umount", full], check=True)
 
 
-def try_twins(theirs, place, folder, temporary, count):
-    """Two streams of one producer, in each shell: the same as of files."""
-    (folder / "long.txt").write_text("chr1\t500000\n" + "".join(f"contig{n}\t5000\n" for n in range(20_000)),
-                                     encoding="utf-8")
-    for producer, line, needed in TWINS:
-        files = {"p": "a.bed", "q": "long.txt" if "-g q" in line else "a.bed"}
-        files["p"] = "few.bed" if "head" in producer else "none.bed" if ": >" in producer else files["p"]
-        (folder / "few.bed").write_text("".join(ROWS.splitlines(keepends=True)[:9]), encoding="utf-8")
-        (folder / "none.bed").write_text("", encoding="utf-8")
-        words = [files.get(word, word) for word in line.replace("<(cat ", "").replace(")", "").split()]
-        wanted = call([theirs, *words], folder, looking())
-        for shell in SHELLS:
-            for room in ("1000000", "200", "70000"):
-                if int(room) < needed or not shutil.which(shell.split()[0]):
-                    continue
-                ours = f"{shell} {drop_in(place) / 'bedtools'}"
-                script = f"rm -f p q; mkfifo p q; ({producer}) & timeout 60 {ours} {line}"
-                found = call(["bash", "-c", script], folder,
-                             looking(drop_in(place), DUNEKETTLE_ROOM=room, TMPDIR=str(temporary)))
-                count.expect(f"{producer}: {shell} {line}, room {room}", (wanted[0], 0, []),
-                             (found[0], found[2], list(temporary.iterdir())))
-
-
 def try_losses(place, folder, count):
-    """A copy that fails, and one that isn't fed any longer: a fault and a status."""
-    broken = fake(folder.parent / "broken head", "head",
-                  f'[ "$1" != -c ] || [ "$2" -le 1 ] || {{ {shutil.which("head")} -c 100; exit 1; }}; '
-                  f'exec {shutil.which("head")} "$@"')
-    env = looking(drop_in(place), broken)
-    for script in ("bedtools intersect -u -a <(cat a.bed) -b <(cat a.bed)",):
-        found = call(["bash", "-c", script], folder, env)
-        count.expect(f"a copy that fails: {script}", (b"", 1, True),
-                     (found[0], found[2], "a stream is lost" in found[1]))
-    # A head that takes more than it is told, as that of busybox, gets no stream.
-    greedy = fake(folder.parent / "greedy head", "head",
-                  f'{shutil.which("dd")} bs=4096 count=1 2> /dev/null | {shutil.which("head")} "$@"')
-    for script in ("cat a.bed | bedtools merge", "cat wide.bed | bedtools intersect -wo -a - -b a.bed",
-                   "bedtools intersect -u -a <(cat a.bed) -b <(cat a.bed)"):
-        wanted, found = (call(["bash", "-c", script], folder, env)
-                         for env in (looking(), looking(drop_in(place), greedy, DUNEKETTLE_ROOM="1000")))
-        count.expect(f"a head that takes too much: {script}", wanted, found)
+    """What is kept in memory needs no room in TMPDIR; and a stream that isn't fed any longer: a fault and a status."""
     little = fake(folder.parent / "little room", "df", "printf 'a\\na 1 1 1 1 a\\n'")
-    # What is kept in memory needs no room there.
     for script in ("cat wide.bed | bedtools intersect -wo -a - -b a.bed", "cat a.bed | bedtools merge"):
         found = call(["bash", "-c", script], folder, looking(drop_in(place), little, DUNEKETTLE_TELL="1"))
         count.expect(f"little room: {script}", ("Dunekettle", 0), (TOLD.findall(found[1])[0][0], found[2]))
     if is_busy("a feeder that is killed"):
         return
-    slow = "(head -n 4000 a.bed; sleep 2; tail -n 4000 a.bed) |"
-    for line, feeder in (("merge", "drop-in"), ("intersect -sorted -c -a - -b <(cat a.bed)", "cat")):
-        child = start(f"{slow} bedtools {line} > /dev/null; exit ${{PIPESTATUS[1]}}", place, folder,
-                      DUNEKETTLE_ROOM="1000")
-        time.sleep(1)
-        feeders = [pid for pid, comm in started_by(child.pid) if comm == feeder]
-        for pid in feeders:
-            os.kill(pid, signal.SIGKILL)
-        count.expect(f"a stream that isn't fed any longer: {line}", (True, 1), (bool(feeders), child.wait(timeout=20)))
+    slow = "(head -n 4000 a.bed; sleep 2; tail -n 4000 a.bed)"
+    script = f"{slow} | bedtools merge > /dev/null; exit ${{PIPESTATUS[1]}}"
+    child = start(script, place, folder, DUNEKETTLE_ROOM="1000")
+    time.sleep(1)
+    feeders = [pid for pid, comm in started_by(child.pid) if comm == "drop-in"]
+    for pid in feeders:
+        os.kill(pid, signal.SIGKILL)
+    count.expect("a stream that isn't fed any longer", (True, 1), (bool(feeders), child.wait(timeout=20)))
 
 
 def start(script, place, folder, *first, **more):
@@ -193,17 +146,18 @@ def try_signals(place, folder, count):
     if is_busy("signals"):
         return
     slow = fake(folder.parent / "slow tr", "tr", "exec sleep 60")
+    unzips = fake(folder.parent / "slow gzip", "gzip", "while sleep 0.05; do printf 'chr1\\t2\\t9\\n'; done")
     awk = fake(folder.parent / "slow awk", "awk",
                f'case "$*" in *histogram*) exec sleep 60 ;; esac; exec {shutil.which("awk")} "$@"')
     scripts = {
-        "copies": ("exec bedtools merge -i <(sleep 60)", ()),
-        "two copies": ("exec bedtools intersect -a <(sleep 60) -b <(cat a.bed)", ()),
-        "opens": ("rm -f p q; mkfifo p q; cat a.bed > p & exec bedtools intersect -a p -b q", ()),
-        "looks": ("exec bedtools intersect -u -a <(cat wide.bed) -b <(cat a.bed)", (slow,)),
-        "writes": ("exec bedtools genomecov -i a.bed -g g.txt", (awk,)),
+        "reads": ("exec bedtools merge -i <(sleep 60)", ()),
+        "unzips": ("exec bedtools merge -i z.gz", (unzips,)),
+        "looks": ("exec bedtools genomecov -bga -strand + -i a.bed -g g.txt", (slow,)),
+        "writes a form": ("exec bedtools genomecov -i a.bed -g g.txt", (awk,)),
+        "writes": ("exec bedtools genomecov -split -i blocks.bed -g g.txt", (awk,)),
         "pours": ("exec bedtools merge -i <(tee < a.bed; sleep 60)", ()),
-        "pours two": ("exec bedtools intersect -sorted -a <(tee < a.bed; sleep 60) -b <(sleep 60)", ()),
     }
+    subprocess.run("gzip -c a.bed > z.gz", cwd=folder, shell=True, check=True)
     temporary = folder.parent / "after signals"
     temporary.mkdir()
     for name, (script, first) in scripts.items():
@@ -218,7 +172,7 @@ def try_signals(place, folder, count):
             time.sleep(0.2)
             # The producers are the trial's own; a kill leaves what nobody can end.
             left = [comm for _, comm in started_by(child.pid)
-                    if comm not in ("bash", "tee", "sleep" if "looks" not in name and "writes" not in name else "")]
+                    if comm not in ("bash", "tee", "sleep" if name in ("reads", "pours") else "")]
             count.expect(f"{sent.name} while it {name}", (-sent, True, [], []),
                          (status, took < 3, left if sent != signal.SIGKILL else [], list(temporary.iterdir())))
             for pid, _ in started_by(child.pid):
@@ -252,6 +206,9 @@ def main():
         (folder / "wide.bed").write_text("".join(f"chr1\t{9000 * n}\t{9000 * n + 20_000}\tw{n}\n" for n in range(40)),
                                          encoding="utf-8")
         (folder / "g.txt").write_text("chr1\t500000\nchr2\t1000\n", encoding="utf-8")
+        (folder / "back.bed").write_text("chr2\t5\t9\tr\t0\t+\n" + ROWS, encoding="utf-8")
+        (folder / "blocks.bed").write_text("".join(f"chr1\t{90 * n}\t{90 * n + 60}\tt\t0\t+\t0\t0\t0\t2\t9,20,\t0,40,\n"
+                                                   for n in range(3000)), encoding="utf-8")
         place = install(Path(made, "there"))
         try_rooms(theirs, place, folder, count)
         try_losses(place, folder, count)

@@ -8,6 +8,7 @@ streams, signals, and what a reader or a feeder that is gone becomes. In the oth
 call. Needs no bedtools and no prover.
 """
 
+import gzip
 import itertools
 import os
 import shutil
@@ -28,11 +29,12 @@ FILES = (["mksh"], ["ksh"], ["yash"], ["zsh", "--emulate", "sh"])
 SIGNALS = (signal.SIGHUP, signal.SIGINT, signal.SIGQUIT, signal.SIGTERM)
 # What follows a message of the program.
 WHOSE = "dunekettle: the message is from Dunekettle, which ran this call instead of bedtools\n"
+SILENT = "the program of the drop-in gave no answer"
 WORDS = ["merge", "-i", "a b", "", "line\nfeed", "*", "\\", "'\"$(x)", "-"]
 BYTES = b"".join(b"chr1\t%d\t%d\n" % (n, n + 9) for n in range(30_000))
 # The program: PLAY is a script of sh, in which `tell` writes a line and `feed` what comes from standard input.
 PROGRAM = """#!/bin/sh
-number=$1
+number=${1%%,*} unzipped=${1#"${1%%,*}"}
 shift
 tell() { eval "printf '%s\\n' \\"\\$1\\" >&$number"; }
 feed() { eval "cat >&$number"; }
@@ -43,10 +45,35 @@ SHOWS = """#!/bin/sh
 [ -z "${SAYS-}" ] || eval "$SAYS"
 printf 'NAME\\n'
 printf '%s\\0' "$@"
-printf '\\n%s\\n' "${DUNEKETTLE_TRIED-}"
+printf '\\n%s\\n' "${DUNEKETTLE_TRIED-}${DUNEKETTLE_WHY-}"
 cat
 exit 7
 """
+# Calls of genomecov that awk makes, by the arguments, and the arguments of the program.
+FORMS = (
+    ("-i a.bed -g g.txt", "-i a.bed -g g.txt -bga"), ("-d -i a.bed -g g.txt", "-bga -i a.bed -g g.txt"),
+    ("-i a.bed -dz -g g.txt", "-i a.bed -bga -g g.txt"), ("-max 2 -i a.bed -g g.txt", "-i a.bed -g g.txt -bga"),
+    ("-bg -scale 0.5 -i a.bed -g g.txt", "-bga -i a.bed -g g.txt"),
+    ("-i a.bed -scale 2 -bga -g g.txt", "-i a.bed -bga -g g.txt"),
+    ("-strand + -i a.bed -g g.txt", "-strand + -i a.bed -g g.txt -bga"),
+)
+# Calls that the program gets as they come.
+NO_FORMS = ("-bg -i a.bed -g g.txt", "-bga -i a.bed -g g.txt", "-bg -max 2 -i a.bed -g g.txt", "-ibam a.bam",
+            "-split -i a.bed -g g.txt", "-scale 2 -i a.bed -g g.txt", "-d -scale 2 -i a.bed -g g.txt",
+            "-max x -i a.bed -g g.txt", "-max 0 -i a.bed -g g.txt", "-scale 1e3 -bg -i a.bed -g g.txt",
+            "-d -dz -i a.bed -g g.txt", "-d -d -i a.bed -g g.txt", "-i a.bed -g g.txt -max", "-i a.bed -g g.txt -max ")
+# What the program writes with -bga, and what awk makes of it.
+COVERED = b"chr1\t0\t2\t0\nchr1\t2\t4\t1\nchr1\t4\t5\t3\n"
+MADE = {
+    "-i a.bed -g g.txt": b"chr1\t0\t2\t5\t0.4\nchr1\t1\t2\t5\t0.4\nchr1\t3\t1\t5\t0.2\n"
+                         b"genome\t0\t2\t5\t0.4\ngenome\t1\t2\t5\t0.4\ngenome\t3\t1\t5\t0.2\n",
+    "-max 2 -i a.bed -g g.txt": b"chr1\t0\t2\t5\t0.4\nchr1\t1\t2\t5\t0.4\nchr1\t2\t1\t5\t0.2\n"
+                                b"genome\t0\t2\t5\t0.4\ngenome\t1\t2\t5\t0.4\ngenome\t2\t1\t5\t0.2\n",
+    "-d -i a.bed -g g.txt": b"chr1\t1\t0\nchr1\t2\t0\nchr1\t3\t1\nchr1\t4\t1\nchr1\t5\t3\n",
+    "-dz -i a.bed -g g.txt": b"chr1\t2\t1\nchr1\t3\t1\nchr1\t4\t3\n",
+    "-bg -scale 0.5 -i a.bed -g g.txt": b"chr1\t2\t4\t0.5\nchr1\t4\t5\t1.5\n",
+    "-bga -scale 0.5 -i a.bed -g g.txt": b"chr1\t0\t2\t0\nchr1\t2\t4\t0.5\nchr1\t4\t5\t1.5\n",
+}
 
 
 def known(shells):
@@ -102,6 +129,8 @@ class Stub(unittest.TestCase):
             file.parent.mkdir(parents=True, exist_ok=True)
             file.write_text(text, encoding="utf-8")
             file.chmod(0o755)
+        for part in (*STUB.parent.glob("*.awk"), STUB.parent / "forms.sh", STUB.parent / "gzip.sh"):
+            shutil.copy(part, self.home)
         (self.stub.parent / "mergeBed").symlink_to("bedtools")
 
     def run_stub(self, shell, play, words=("merge",), given=b"", **more):
@@ -178,10 +207,11 @@ class Stub(unittest.TestCase):
 
     def test_no_verdict(self):
         for shell in known(PIPES):
-            for play in ("tell t", "printf 'o %s' \"$OTHER\" >&$number", "exit 0", "exit 1", "kill -s KILL $$",
-                         "tell x", "tell 'd '", "tell ''"):
+            for play in ("tell 't a word'", "tell t", "printf 'o %s' \"$OTHER\" >&$number", "exit 0", "exit 1",
+                         "kill -s KILL $$", "tell x", "tell 'd '", "tell ''"):
+                why = {"tell 't a word'": "a word", "tell t": ""}.get(play, SILENT)
                 found = self.run_stub(shell, play, WORDS, b"bytes")
-                self.assertEqual((found[0], found[2]), (self.shown("script", WORDS, "", b"bytes"), 7), (shell, play))
+                self.assertEqual((found[0], found[2]), (self.shown("script", WORDS, why, b"bytes"), 7), (shell, play))
             # Bytes that it took away nobody else gets.
             for play in ("tell r", "tell r; exit 1", "tell r; kill -s KILL $$", "tell r; printf d >&$number"):
                 found = self.run_stub(shell, play, WORDS, b"bytes")
@@ -197,8 +227,9 @@ class Stub(unittest.TestCase):
                 self.program.write_text("" if how == "empty" else PROGRAM, encoding="utf-8")
                 self.program.chmod(0o755 if how == "empty" else 0o644)
             for shell in known(PIPES):
+                why = "the program of the drop-in is missing" if how != "empty" else SILENT
                 self.assertEqual(self.run_stub(shell, "tell d", WORDS, b"bytes"),
-                                 (self.shown("script", WORDS, "", b"bytes"), "", 7), (shell, how))
+                                 (self.shown("script", WORDS, why, b"bytes"), "", 7), (shell, how))
             if how == "a folder":
                 self.program.rmdir()
             self.program.touch()
@@ -207,17 +238,85 @@ class Stub(unittest.TestCase):
         for shell in known(FILES):
             for words in (WORDS, ["sort"]):
                 self.assertEqual(self.run_stub(shell, "tell d", words, b"bytes"),
-                                 (self.shown("script", words, "", b"bytes"), "", 7), shell)
+                                 (self.shown("script", words, "this sh can open no pipes", b"bytes"), "", 7), shell)
 
     def test_what_the_script_takes(self):
         for shell in known((*PIPES, *FILES)):
             for words, more in (([], {}), ([""], {}), (["--version"], {}), (["-h"], {}), (["--help"], {}),
-                                (["help"], {}), (["merge"], {"DUNEKETTLE_ALWAYS": "1"}),
-                                (["merge"], {"DUNEKETTLE_STREAMS": "1"})):
+                                (["help"], {}), (["merge"], {"DUNEKETTLE_ALWAYS": "1"})):
                 found = self.run_stub(shell, "tell d", words, b"bytes", **more)
                 # Without words, printf writes an empty one.
                 wanted = self.shown("script", words or [""], "", b"bytes")
                 self.assertEqual(found, (wanted, "", 7), (shell, words))
+
+    def zipped(self, name, text):
+        """A gzip file, whose feeder ends well."""
+        (self.top / name).write_bytes(gzip.compress(text))
+        return name
+
+    def test_gzip_files(self):
+        words = ["merge", "-i", self.zipped("a 'b\".gz", BYTES)]
+        play = 'case $unzipped in ,3=*) tell d; eval "cat <&${unzipped#*=}" ;; *) tell "z 3" ;; esac'
+        for shell in known(PIPES):
+            self.assertEqual(self.run_stub(shell, play, words, MARK=str(self.top)), (BYTES + b"\0", "", 0), shell)
+            self.assertEqual(with_mark(self.top), [], shell)
+        whole = (self.top / words[2]).read_bytes()
+        for cut in (whole[:-4], whole[:40], whole + b"junk", b"", b"\x1f"):
+            (self.top / words[2]).write_bytes(cut)
+            for shell in known(PIPES):
+                self.assertFalse(self.run_stub(shell, play, words)[0].endswith(b"\0"), (shell, len(cut)))
+        words[2] = "missing"
+        for shell in known(PIPES):
+            self.assertEqual(self.run_stub(shell, play, words), (b"", "", 0), shell)
+
+    def test_two_gzip_files(self):
+        words = ["subtract", "-a", self.zipped("a.gz", BYTES), "-b", self.zipped("b.gz", b"b\n")]
+        play = ('case $unzipped in *,*,*) tell d; first=${unzipped#,3=}; '
+                'eval "cat <&${first%%,*}; cat <&${unzipped##*=}" ;; *,*) tell "z 5" ;; *) tell "z 3" ;; esac')
+        for shell in known(PIPES):
+            self.assertEqual(self.run_stub(shell, play, words), (BYTES + b"\0b\n\0", "", 0), shell)
+            for left, given, shown in (('tell "o $OTHER"', b"bytes", b"bytes"),
+                                       ('tell r; tell "s 0 $OTHER"; echo poured >&$number', b"", b"poured\n")):
+                found = self.run_stub(shell, play.replace("tell d", left + "; exit"), words, given, MARK=str(self.top))
+                self.assertEqual(found, (self.shown("other", words, f":{self.other}", shown), "", 7), (shell, left))
+                time.sleep(0.1)
+                self.assertEqual(with_mark(self.top), [], (shell, left))
+            # One that is asked for again and again ends once no descriptor is free.
+            found = self.run_stub(shell, 'tell "z 3"', words, b"bytes")
+            self.assertEqual(found, (self.shown("script", words, "this sh can open no pipes", b"bytes"), "", 7), shell)
+
+    def test_forms_of_genomecov(self):
+        for shell in known(PIPES):
+            for line, wanted in (*FORMS, *zip(NO_FORMS, NO_FORMS)):
+                play = 'printf "%s," "$@" > given; tell "o $OTHER"'
+                found = self.run_stub(shell, play, ["genomecov", *line.split(" ")])
+                self.assertEqual(found[0], self.shown("other", ["genomecov", *line.split(" ")], f":{self.other}"), line)
+                self.assertEqual((self.top / "given").read_text(encoding="utf-8"),
+                                 ",".join(["genomecov", *wanted.split(" "), ""]), (shell, line))
+            for line, wanted in MADE.items():
+                play = f"tell d; cat; exit {len(line) % 2}"
+                found = self.run_stub(shell, play, ["genomecov", *line.split(" ")], COVERED)
+                self.assertEqual(found[1:], (WHOSE if len(line) % 2 else "", len(line) % 2), (shell, line))
+                if not len(line) % 2:
+                    self.assertEqual(found[0], wanted, (shell, line))
+
+    def test_how_a_form_ends(self):
+        fault = "bedtools genomecov: writing failed\n" + WHOSE
+        for shell in known(PIPES):
+            words = ["genomecov", "-d", "-i", "a.bed", "-g", "g.txt"]
+            program = f"{' '.join(shell)} {self.stub} {' '.join(words)}"
+            env = environment(PLAY="tell d; exec 2> /dev/null; yes 'chr1	0	9	1' | head -n 99999 || exit 121")
+            found = call(["bash", "-c", f"{program} | head -n 1; exit ${{PIPESTATUS[0]}}"], self.top, env)
+            self.assertEqual(found, (b"chr1\t1\t1\n", "", 141), shell)
+            for script in (f"{program} > /dev/full", f"{program} >&-",
+                           f"trap '' PIPE; {program} | true; exit ${{PIPESTATUS[0]}}"):
+                self.assertEqual(call(["bash", "-c", script], self.top, env), (b"", fault, 1), (shell, script))
+            self.assertEqual(self.run_stub(shell, "tell d; kill -s KILL $$", words)[2], -signal.SIGKILL, shell)
+            words = ["genomecov", "-max", "9", "-i", "x", "-g", "g"]
+            for number, place in ((0, None), (3, 4), (5, 6)):
+                found = self.run_stub(shell, f'tell r; tell "s {number} $OTHER"; feed', words, b"bytes")
+                wanted = ["-" if at == place else word for at, word in enumerate(words)]
+                self.assertEqual(found, (self.shown("other", wanted, f":{self.other}", b"bytes"), "", 7), shell)
 
     def test_older_names(self):
         names = {"mergeBed": "merge", "complementBed": "complement", "intersectBed": "intersect",

@@ -67,12 +67,13 @@ OTHERS = ("man/*.1", "generated/**/*.*", "front/*", "packaging/control")
 WHERE = [*PAGES, *(file for pattern in OTHERS for file in sorted(TOP.glob(pattern)) if file not in PAGES)]
 # Numbers that several files say, each with what it is. Each of them may be said only once in a file.
 SAME = {
-    "how much of a stream is copied": {
+    "how much text is kept": {
+        "crates/drop_in/src/system.rt": r"const ROOM: usize = ([\d_]+);",
         "front/*.sh": r"DUNEKETTLE_ROOM:-(\d+)", "docs/MIGRATING.md": r"DUNEKETTLE_ROOM=BYTES`[^\n]*?: ([\d,]+)",
-        "man/dunekettle.1": r"keeps for its check: (\d+)"},
+        "man/dunekettle.1": r"keeps in memory: (\d+)"},
     "which inputs are small": {
         "front/*.sh": r"DUNEKETTLE_SMALL:-(\d+)", "docs/MIGRATING.md": r"DUNEKETTLE_SMALL=BYTES`[^\n]*?: ([\d,]+)",
-        "man/dunekettle.1": r"of some calls need: (\d+)"},
+        "man/dunekettle.1": r"\.Cm genomecov :\n(\d+) by default"},
     "how long many reads that overlap took": {
         "CHANGELOG.md": r"on 30,000 bases took (\S+ s), and take (\S+ s)",
         "bench/HISTORY.md": r"on 30,000 bases\* (\S+ s) to (\S+ s)"},
@@ -278,9 +279,9 @@ def unnamed():
 
 
 def said_in(pattern, name):
-    """What the files of a name say of a number, each number without commas."""
+    """What the files of a name say of a number, each number without commas or underscores."""
     text = "".join(file.read_text(encoding="utf-8") for file in sorted(TOP.glob(name)))
-    return [tuple(part.replace(",", "").rstrip(".") for part in found.groups()) for found in re.finditer(pattern, text)]
+    return [tuple(re.sub("[,_]", "", part).rstrip(".") for part in found.groups()) for found in re.finditer(pattern, text)]
 
 
 def unequal():
