@@ -3,9 +3,9 @@
 ghost use Rattle.std.specs.Prelude.{ℕ, List, [], ◌∷◌, ◌++◌, ◌≡◌, IfErr, IfNone, IfOk, IfSome};
 ghost use Rattle.bt_front.specs.calls.Survey.{IsTroubleOf};
 ghost use Rattle.bt_front.specs.model.Survey.{IsSurveyOf};
-ghost use Rattle.drop_in.specs.calls.Gzip.{has_extra_fields, is_one_part, tells_length};
+ghost use Rattle.drop_in.specs.calls.Gzip.{has_extra_fields, is_bam, is_one_part, tells_length};
 ghost use Rattle.drop_in.specs.calls.Looks.{IsUnzipped, IsWhyUnread, IsWhyUnzipped, LeavesGzip, ReadsText, SeesGzip};
-ghost use Rattle.drop_in.specs.calls.Whys.{unread_why};
+ghost use Rattle.drop_in.specs.calls.Whys.{unread_why, unzipped_why};
 
 use crate::looks::{Reading, Seen, text_why};
 use crate::opening::OpenedGzip;
@@ -36,8 +36,25 @@ pub fn look_at_gzip<I: Source + Drop>(
             survey,
             reading: Reading::Text(text),
         }),
-        Err(trouble) => Err(text_why(input, trouble, false)),
+        Err(trouble) => Err(unzipped_why(input, trouble, text.as_slice())),
     }
+}
+
+// Why the text of a gzip file leaves the call: BAM files are gzip files too.
+fn unzipped_why(input: Input, trouble: Trouble, text: &[u8]) -> Why
+    ensures { result ≡ unzipped_why input trouble text.now }
+{
+    if is_bam(text) {
+        return Why::Bam(input);
+    }
+    text_why(input, trouble, false)
+}
+
+// Whether a text begins as BAM.
+fn is_bam(text: &[u8]) -> bool
+    ensures { result ≡ is_bam text.now }
+{
+    text.starts_with(b"BAM\x01")
 }
 
 // The text of a gzip file, if it is whole, and if the file is one part.

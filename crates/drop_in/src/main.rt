@@ -49,14 +49,14 @@ use bt_tool::Plan;
 use front_files::FrontInput;
 use hits::Listed;
 use leaving::{Call, Cause, Heir};
-use opening::Ways;
+use opening::{Way, Ways};
 use original::Original;
 use pipes::Pipes;
 use std::env::Env;
 use std::fs::File;
 use std::process::ExitCode;
 use std::{env, io};
-use system::{DropInFiles, find_original, fit_room, open_pipe, room, ways_of, writes_to_pipe};
+use system::{DropInFiles, begins_as_gzip, find_original, fit_room, open_pipe, room, ways_of, writes_to_pipe};
 use system_programs::SystemPrograms;
 use versions::{is_for_any_version, is_known_version};
 use warning::Case;
@@ -132,6 +132,9 @@ fn answer_call(call: &Call<'_>, pipe: File) -> u8 {
     if let Some(why) = why_unknown(call.rt, &request) {
         return call.leave(pipe, cause_of(why));
     }
+    if let Some(word) = gzip_word(call, &request.plan, ways) {
+        return call.ask_for_text(pipe, word);
+    }
     if !ways.first.is_stream() && !ways.second.is_stream() {
         return answer_files(call, pipe, request, ways);
     }
@@ -139,6 +142,25 @@ fn answer_call(call: &Call<'_>, pipe: File) -> u8 {
         Original::Named(path) => answer_stream(call, pipe, request, ways, path.as_str()),
         Original::Missing | Original::Unclear => call.leave(pipe, cause_of(Why::NoOriginal)),
     }
+}
+
+// The word that names the first input that is a gzip file, if its text isn't given. It is asked for before any text is read,
+// since what comes on a pipe can't be read again.
+fn gzip_word(call: &Call<'_>, plan: &Plan, ways: Ways<'_>) -> Option<usize> {
+    if ways.first == Way::File && begins_as_gzip(call.rt, plan.first.as_str()) {
+        return place_of(call.words, plan, Input::First, plan.first.as_str());
+    }
+    match &plan.second {
+        Some(second) if ways.second == Way::File && begins_as_gzip(call.rt, second.as_str()) => {
+            place_of(call.words, plan, Input::Second, second.as_str())
+        }
+        _ => None,
+    }
+}
+
+// Where the name of an input stands among the words.
+fn place_of(words: &[String], plan: &Plan, input: Input, name: &str) -> Option<usize> {
+    name_place(words, option_of(plan.command, input), name)
 }
 
 // Why the bedtools on PATH takes the words of a request: it isn't of a version that all was compared with.
@@ -176,7 +198,7 @@ fn answer_files(call: &Call<'_>, pipe: File, request: Request, ways: Ways<'_>) -
     match answered {
         Answered::Took(finished) => end(call.rt, finished),
         Answered::Listed(listed) => end_listed(call.rt, listed),
-        Answered::Left(left) => leave_files(call, &names, files.pipe, left.why),
+        Answered::Left(left) => call.leave(files.pipe, names.cause(left.why)),
     }
 }
 
@@ -206,16 +228,8 @@ fn answer_stream(call: &Call<'_>, pipe: File, request: Request, ways: Ways<'_>, 
                 let heir = Heir { path, word };
                 call.leave_stream(files.pipe, names.cause(left.why), heir, stream)
             }
-            None => leave_files(call, &names, files.pipe, left.why),
+            None => call.leave(files.pipe, names.cause(left.why)),
         },
-    }
-}
-
-// Leaves a call of which no stream was read; or asks for the text of its gzip file, if a word names that.
-fn leave_files(call: &Call<'_>, names: &InputNames, pipe: File, why: Why) -> u8 {
-    match names.zipped_word(call.words, why) {
-        Some(word) => call.ask_for_text(pipe, word),
-        None => call.leave(pipe, names.cause(why)),
     }
 }
 
@@ -249,16 +263,6 @@ impl InputNames {
             why,
             name: self.about(why),
             warning: self.case.warning(why),
-        }
-    }
-
-    // The word that names the cause, if that is a gzip file.
-    fn zipped_word(&self, words: &[String], why: Why) -> Option<usize> {
-        match why {
-            Why::Zipped(input) => {
-                name_place(words, option_of(self.case.command, input), self.about(why))
-            }
-            _ => None,
         }
     }
 

@@ -13,12 +13,15 @@ use bt_files::{Files, Opened, Output, SystemFiles, Unopened};
 use bt_lines::Input;
 use bt_tool::Plan;
 use std::fs::{File, OpenOptions};
-use std::io::Write;
+use std::io::{Read, Write};
 use std::os::unix::fs::FileTypeExt;
 use std::{env, fs, io};
 
 /// How many bytes of a stream are kept if DUNEKETTLE_ROOM doesn't say it.
-const ROOM: usize = 67_108_864;
+const ROOM: usize = 268_435_456;
+
+// The byte by which bedtools knows a gzip file.
+const GZIP: u8 = 0x1f;
 
 /// Opens a pipe to write to it.
 pub fn open_pipe(rt: &HostRuntime, name: &str) -> io::Result<File> {
@@ -113,6 +116,15 @@ fn is_stream(rt: &HostRuntime, name: &str) -> bool {
         Ok(found) => !found.is_file() && !found.is_dir(),
         Err(_) => false,
     }
+}
+
+/// Whether a file begins as a gzip file, as far as it can be read.
+pub fn begins_as_gzip(rt: &HostRuntime, name: &str) -> bool {
+    let Ok(mut file) = File::open(rt, name) else {
+        return false;
+    };
+    let mut first = [0u8; 1];
+    matches!(file.read(&mut first), Ok(1)) && first[0] == GZIP
 }
 
 /// Whether standard output is a pipe or a socket, whose reader may go away.

@@ -59,6 +59,8 @@ pub enum Why {
     Unzip(Input),
     /// A gzip file has several parts, of which bedtools may read the first alone.
     Parts(Input),
+    /// An input is BAM.
+    Bam(Input),
 }
 
 /// Who takes a call that isn't run here.
@@ -89,7 +91,8 @@ impl Why {
             | Why::Text(input, _)
             | Why::Zipped(input)
             | Why::Unzip(input)
-            | Why::Parts(input) => Some(input),
+            | Why::Parts(input)
+            | Why::Bam(input) => Some(input),
             Why::Genome(_) | Why::TabInComment | Why::NulInGenome | Why::GenomeStream => Some(
                 Input::Genome,
             ),
@@ -126,6 +129,7 @@ impl Why {
             Why::Zipped(_) => "it begins as a gzip file",
             Why::Unzip(_) => "gzip fails, or its text doesn't fit DUNEKETTLE_ROOM",
             Why::Parts(_) => "it is a gzip file of several parts",
+            Why::Bam(_) => "it is BAM",
         }
     }
 }

@@ -1,4 +1,4 @@
--- Gzip files, by RFC 1952.
+-- Gzip files, by RFC 1952, and what their texts may be.
 use Rattle.std.specs.Prelude.{ℕ, Bool, List, [], ◌∷◌, ◌||◌, ◌&&◌, ◌==◌, ◌-◌, ◌%◌, ◌^◌, nat_le, length, drop}
 use Rattle.std.specs.Int.{from_le_bytes, w32}
 use Rattle.std.specs.List.{starts_with}
@@ -17,3 +17,7 @@ tells_length zipped count =
 -- a gzip file whose text has this length is one part, as far as that can be known: or it is in blocks as bgzip writes them
 abbrev pub is_one_part : List ℕ → ℕ → Bool
 is_one_part zipped count = has_extra_fields zipped || tells_length zipped count
+
+-- the text is a BAM file, by its magic string (SAM specification, section 4.2): "BAM" and the byte 1
+abbrev pub is_bam : List ℕ → Bool
+is_bam text = starts_with (λ a b. a == b) text (66 ∷ 65 ∷ 77 ∷ 1 ∷ [])

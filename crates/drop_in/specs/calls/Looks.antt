@@ -16,7 +16,7 @@ use Rattle.bt_front.specs.model.Survey.{IsSurveyOf}
 use Rattle.bt_tool.specs.model.Table.{Word}
 use Rattle.drop_in.specs.calls.Gzip.{is_one_part}
 use Rattle.drop_in.specs.calls.Opening.{IsRefused}
-use Rattle.drop_in.specs.calls.Whys.{file_why, stream_why, text_why, unread_why}
+use Rattle.drop_in.specs.calls.Whys.{file_why, stream_why, unread_why, unzipped_why}
 use Rattle.drop_in.specs.declared.genome_file.GenomeFile.{GenomeFile}
 use Rattle.drop_in.specs.declared.looks.Left.{Left}
 use Rattle.drop_in.specs.declared.looks.ReadStream.{ReadStream}
@@ -107,7 +107,7 @@ module _ {I : Type 0} (source : Source I) where
   pub data LeavesGzip (gzip : OpenedGzip I) (input : Input) (room : ℕ) (why : Why) : Type 0 where
     not_unzipped : IsWhyUnzipped gzip input room why → LeavesGzip gzip input room why
     by_text : (text : List ℕ) (trouble : Trouble) → IsUnzipped gzip text → IsTroubleOf text trouble
-        → why ≡ text_why input trouble false → LeavesGzip gzip input room why
+        → why ≡ unzipped_why input trouble text → LeavesGzip gzip input room why
 
   -- an input, if it's a file
   abbrev pub SeesIfFile : FileOrStream (OpenedInput I) → FileOrStream (Seen I) → Type 0

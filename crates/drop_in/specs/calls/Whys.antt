@@ -1,5 +1,5 @@
 -- Why a call is left.
-use Rattle.std.specs.Prelude.{◌≡◌, Bool, true, false, ◌&&◌, ◌||◌, List, Option, Ok, Err, not, if◌then◌else◌}
+use Rattle.std.specs.Prelude.{◌≡◌, ℕ, Bool, true, false, ◌&&◌, ◌||◌, List, Option, Ok, Err, not, if◌then◌else◌}
 use Rattle.bt_lines.specs.declared.fault.Input.{Input}
 use Rattle.bt_lines.specs.declared.fault.Kind.{Kind}
 use Rattle.bt_lines.specs.declared.fault.Kind.TheVariants.{ReadFailed}
@@ -14,10 +14,11 @@ use Rattle.bt_front.specs.declared.verdict.reason.Reason.{Reason}
 use Rattle.bt_front.specs.declared.verdict.reason.Reason.TheVariants.{NoCommonOrder}
 use Rattle.bt_front.specs.declared.words.Asked.{Asked}
 use Rattle.bt_front.specs.model.Verdict.{have_common_order, lists_hits, verdict_of}
+use Rattle.drop_in.specs.calls.Gzip.{is_bam}
 use Rattle.drop_in.specs.calls.Opening.{is_stream}
 use Rattle.drop_in.specs.declared.opening.Ways.{Ways}
 use Rattle.drop_in.specs.declared.why.Why.{Why}
-use Rattle.drop_in.specs.declared.why.Why.TheVariants.{GenomeStream, LongStream, NoMemory, Text, TwoStreams, Unzip, Verdict, Zipped}
+use Rattle.drop_in.specs.declared.why.Why.TheVariants.{Bam, GenomeStream, LongStream, NoMemory, Text, TwoStreams, Unzip, Verdict, Zipped}
 use Rattle.drop_in.specs.declared.words.Request.{Request}
 
 -- the hits of a record have to be put in order
@@ -69,6 +70,10 @@ abbrev pub stream_why : Input → Trouble → Bool → Bool → Why
 stream_why input (Refused fault) is_long has_failed =
     if is_failed_read fault.kind && is_long then LongStream else text_why input (Refused fault) has_failed
 stream_why input trouble is_long has_failed = Text input trouble
+
+-- of the text of a gzip file: BAM has a name of its own
+abbrev pub unzipped_why : Input → Trouble → List ℕ → Why
+unzipped_why input trouble text = if is_bam text then Bam input else text_why input trouble false
 
 -- of a text that wasn't read to its end: by whether more came of it than there is room for, and by whether a read failed
 abbrev pub unread_why : Input → Bool → Bool → Why
