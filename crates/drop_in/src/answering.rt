@@ -53,7 +53,7 @@ pub fn answer<I: Source + Drop, F: Files<Input = I>>(
     ways: Ways<'_>,
     room: usize,
 ) -> (Answered<I, F::Output>, F)
-    ensures { Answers F.Files I.Source F.Output.Sink files request ways room result.0 result.1 }
+    ensures { Answers F.Files I.Source F.Output.Sink files request ways.entry room result.0 result.1 }
 {
     let mut files = files;
     match look(alloc, &mut files, &request, ways, room) {
@@ -159,8 +159,8 @@ fn look<F: Files>(
     ways: Ways<'_>,
     room: usize,
 ) -> Result<Inputs<F::Input>, Left<F::Input>>
-    ensures looks { IfOk result (λ inputs. Looks F.Files F.Input.Source files.old request.now ways inputs files.new) }
-    ensures leaves { IfErr result (λ left. LeavesCall F.Files F.Input.Source files.old request.now ways room left files.new) }
+    ensures looks { IfOk result (λ inputs. Looks F.Files F.Input.Source files.old request.now ways.entry inputs files.new) }
+    ensures leaves { IfErr result (λ left. LeavesCall F.Files F.Input.Source files.old request.now ways.entry room left files.new) }
 {
     if let Some(why) = ways_why(ways) {
         return Err(Left { why, stream: None });
@@ -177,8 +177,8 @@ fn look<F: Files>(
 
 // Why the ways in which its inputs come leave the call.
 fn ways_why(ways: Ways<'_>) -> Option<Why>
-    ensures runnable { IfNone result (AreRunnable ways) }
-    ensures why { IfSome result (IsWhyOfWays ways) }
+    ensures runnable { IfNone result (AreRunnable ways.entry) }
+    ensures why { IfSome result (IsWhyOfWays ways.entry) }
 {
     if ways.genome {
         Some(Why::GenomeStream)

@@ -49,6 +49,7 @@ use bt_tool::Plan;
 use front_files::FrontInput;
 use hits::Listed;
 use leaving::{Call, Cause, Heir};
+use looks::Left;
 use opening::{Way, Ways};
 use original::Original;
 use pipes::Pipes;
@@ -90,10 +91,12 @@ fn start(rt: &HostRuntime) -> u8 {
             let words = words.as_slice();
             answer_call(&Call { rt, words, pipes }, pipe)
         }
-        Err(_) => {
-            let words = &[];
-            Call { rt, words, pipes }.leave(pipe, cause_of(Why::NotUnicode))
+        Err(_) => Call {
+            rt,
+            words: &[],
+            pipes,
         }
+        .leave(pipe, cause_of(Why::NotUnicode)),
     }
 }
 
@@ -223,13 +226,16 @@ fn answer_stream(call: &Call<'_>, pipe: File, request: Request, ways: Ways<'_>, 
     match answered {
         Answered::Took(finished) => end(call.rt, finished),
         Answered::Listed(listed) => end_listed(call.rt, listed),
-        Answered::Left(left) => match left.stream {
-            Some(stream) => {
-                let heir = Heir { path, word };
-                call.leave_stream(files.pipe, names.cause(left.why), heir, stream)
+        Answered::Left(left) => {
+            let Left { why, stream } = left;
+            match stream {
+                Some(stream) => {
+                    let heir = Heir { path, word };
+                    call.leave_stream(files.pipe, names.cause(why), heir, stream)
+                }
+                None => call.leave(files.pipe, names.cause(why)),
             }
-            None => call.leave(files.pipe, names.cause(left.why)),
-        },
+        }
     }
 }
 

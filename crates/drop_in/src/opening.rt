@@ -28,7 +28,7 @@ impl Way<'_> {
 
     /// Whether it is a stream.
     pub fn is_stream(self) -> bool
-        ensures { result ≡ is_stream self }
+        ensures { result ≡ is_stream self.entry }
     {
         match self {
             Way::Stream => true,
@@ -95,8 +95,8 @@ pub fn open_all<F: Files>(
     plan: &Plan,
     ways: Ways<'_>,
 ) -> Result<OpenedFiles<F::Input>, Why>
-    ensures opens { IfOk result (λ opened. OpensAll F.Files files.old (plan_seen plan.now).names ways opened files.new) }
-    ensures cannot { IfErr result (λ why. CannotOpen F.Files files.old (plan_seen plan.now).names ways why files.new) }
+    ensures opens { IfOk result (λ opened. OpensAll F.Files files.old (plan_seen plan.now).names ways.entry opened files.new) }
+    ensures cannot { IfErr result (λ why. CannotOpen F.Files files.old (plan_seen plan.now).names ways.entry why files.new) }
 {
     let genome = match open_if(files, &plan.genome) {
         Ok(genome) => genome,
@@ -134,8 +134,8 @@ fn open_second<F: Files>(
     name: &Option<String>,
     way: Way<'_>,
 ) -> Result<Option<FileOrStream<OpenedInput<F::Input>>>, Why>
-    ensures opens { IfOk result (λ opened. OpensInputIf F.Files way files.old (option_map string_bytes name.now) opened files.new) }
-    ensures cannot { IfErr result (λ why. CannotOpenIf F.Files way files.old (option_map string_bytes name.now) Second why files.new) }
+    ensures opens { IfOk result (λ opened. OpensInputIf F.Files way.entry files.old (option_map string_bytes name.now) opened files.new) }
+    ensures cannot { IfErr result (λ why. CannotOpenIf F.Files way.entry files.old (option_map string_bytes name.now) Second why files.new) }
 {
     match name {
         Some(name) => match open_input(files, name.as_str(), Input::Second, way) {
@@ -153,8 +153,8 @@ fn open_input<F: Files>(
     input: Input,
     way: Way<'_>,
 ) -> Result<FileOrStream<OpenedInput<F::Input>>, Why>
-    ensures opens { IfOk result (λ opened. OpensInput F.Files way files.old name.now opened files.new) }
-    ensures cannot { IfErr result (λ why. CannotOpenInput F.Files way files.old name.now input why files.new) }
+    ensures opens { IfOk result (λ opened. OpensInput F.Files way.entry files.old name.now opened files.new) }
+    ensures cannot { IfErr result (λ why. CannotOpenInput F.Files way.entry files.old name.now input why files.new) }
 {
     match way {
         Way::Stream => Ok(FileOrStream::Stream),

@@ -1,9 +1,8 @@
 -- Lemmas on gzip files: texts that aren't read to their ends, and surveys of texts in memory.
-use denote.Ref.{Bor}
 use Rattle.std.specs.Prelude.{IfErr, IfOk, Vec, nat_lt}
 use Rattle.std.specs.declared.alloc.Global.{Global}
-use Rattle.bt_lines.proofs.Std.{◌≡◌, ◌∙◌, ◌⊎◌, ◌++◌, ℕ, [], Bool, Err, List, None, Ok, Option, Result, Some, ap, inl, inr, length, refl, subst, sym, true}
-use Rattle.bt_lines.specs.calls.Device.{FailsAfter, IsReaderRead, ReadsOn, TellsText, reader_of}
+use Rattle.bt_lines.proofs.Std.{◌≡◌, ◌∙◌, ◌⊎◌, ℕ, Bool, Err, List, None, Ok, Result, ap, inl, inr, length, subst, sym}
+use Rattle.bt_lines.specs.calls.Device.{FailsAfter, ReadsOn, TellsText}
 use Rattle.bt_lines.specs.declared.device.Source.{Ghosts as Source}
 use Rattle.bt_lines.specs.declared.fault.Input.{Input}
 use Rattle.bt_front.proofs.lemmas.survey.ReadLemmas.{leaves_told, survey_told}
@@ -47,7 +46,7 @@ module _ {S : Type 0} (device : Source S) (before after : S) (text : List ℕ) (
   pub leaves_text : (trouble : Trouble) → LeavesText device before after trouble → IsTroubleOf text trouble
   leaves_text trouble leaves =
       let told = leaves_told device before after text tells trouble leaves in
-      subst (λ (bytes : List ℕ). IsTroubleOf bytes trouble) (sym told.1.0) (leaves.is told.0 told.1.1)
+      subst (λ (bytes : List ℕ). IsTroubleOf bytes trouble) (sym told.1) (leaves.is told.0 told.2)
 
   pub surveyed_text : (result : Result Survey Trouble) → ReadsSurvey device before after result → IfOk result (IsSurveyOf text)
   surveyed_text (Ok survey) surveys = surveys_text survey surveys

@@ -1,6 +1,8 @@
-use Rattle.bt_lines.proofs.Std.{List, ap, arith, refl, subst, sym, take, ℕ, ◌∙◌, ◌++◌}
+use Rattle.std.specs.Prelude.{nat_lt}
+use Rattle.std.proofs.Common.{rules}
+use Rattle.bt_lines.proofs.Std.{List, ap, arith, refl, subst, sym, take, ℕ}
 use Rattle.bt_lines.specs.calls.Device.{EndsAfter, begun}
-use Rattle.bt_front.specs.calls.Stream.{kept_of, source_of}
+use Rattle.bt_front.specs.calls.Stream.{source_of}
 use Rattle.drop_in.specs.calls.Looks.IsWhyUnread.{no_memory}
 use Rattle.drop_in.proofs.lemmas.KeptLemmas.{kept_last, kept_more}
 use Rattle.drop_in.proofs.lemmas.GzipLemmas.{unread}
@@ -23,3 +25,9 @@ returns-in-Ok-eq0-clause-reads g c = record {
 
 pub returns-clause-leaves : goal.returns-clause-leaves
 returns-clause-leaves g c = no_memory refl
+
+pub returns-in-Err-clause-leaves : goal.returns-in-Err-clause-leaves
+returns-in-Err-clause-leaves g c =
+    unread g.S.Source c.args.source c.into_parts-source-in-Err.result.0 c.loop.keeping c.read.new.self c.into_parts-source-in-Err.result.1 c.args.input c.args.room
+    (nat_lt c.args.room c.len.result) c.failed.result c.unread_why.result c.loop.invariant (c.in-Err.ensures.handed (omega (arith, c.read.auto.block)))
+    c.into_parts-source-in-Err.ensures.source c.into_parts-source-in-Err.ensures.kept (search rules) c.failed.ensures c.unread_why.ensures
