@@ -9,7 +9,7 @@ ghost use Rattle.bt_hits.specs.inside.Ending.{EndsPutting};
 ghost use Rattle.bt_hits.specs.inside.Meeting.{ListsNext, Sees};
 ghost use Rattle.bt_hits.specs.model.Bins.{intersect_by_bins};
 
-use crate::meeting::{drop_passed, take_up_to};
+use crate::meeting::{Near, count_undecided, drop_passed, take_up_to};
 use crate::reading::record_at;
 use crate::writing::put_levels;
 use bt_bed::{ChromOrder, Rec};
@@ -119,5 +119,10 @@ fn put_next<O: ChromOrder, K: Sink>(
         return Err(no_memory());
     };
     drop_passed(order, a, active);
-    put_levels(listing, a, active.as_slice(), out)
+    let near = Near {
+        active: active.as_slice(),
+        rest,
+        ahead: count_undecided(order, a, rest),
+    };
+    put_levels(listing, a, &near, out)
 }
