@@ -56,14 +56,13 @@ pub struct BothRecords {
     pub second: VecDeque<Rec>,
 }
 
-// Passes on what is held back, and gives the fault that it ends with.
+// Passes on what is held back, and gives the fault that it ends with: a failed write before any other.
 fn finished<K: Sink>(put: Result<(), Fault>, out: &mut Out<K>) -> Option<Fault>
     ensures { EndsPutting put out.old.output (option_map fault_value result) out.new.output }
 {
-    let flushed = out.flush();
-    match put {
+    match out.flush() {
         Err(fault) => Some(fault),
-        Ok(()) => match flushed {
+        Ok(()) => match put {
             Ok(()) => None,
             Err(fault) => Some(fault),
         },
