@@ -3,6 +3,7 @@ pub mod GenomeLemmas
 pub mod HitLemmas
 pub mod KeptLemmas
 pub mod MarkLemmas
+pub mod OddLemmas
 pub mod OriginalLemmas
 pub mod TakenLemmas
 pub mod WordsLemmas

@@ -1,6 +1,6 @@
 -- What looking at the inputs of a call does: files are those before and after.
-use Rattle.std.specs.Prelude.{ℕ, ◌≡◌, ⊤, true, List, Option, Some, None, Result, Ok, Err, length, nat_lt}
-use Rattle.bt_lines.specs.calls.Device.{EndsAfter}
+use Rattle.std.specs.Prelude.{ℕ, ◌≡◌, ◌<◌, ◌⊎◌, ⊤, true, List, Option, Some, None, Result, Ok, Err, length, nat_lt}
+use Rattle.bt_lines.specs.calls.Device.{EndsAfter, FailsAfter, ReadsOn}
 use Rattle.bt_lines.specs.declared.device.Source.{Ghosts as Source}
 use Rattle.bt_lines.specs.declared.fault.Input.{Input}
 use Rattle.bt_lines.specs.declared.fault.Input.TheVariants.{Genome}
@@ -8,13 +8,17 @@ use Rattle.bt_lines.specs.model.Lines.{whole_text}
 use Rattle.bt_bed.specs.calls.GenomeTable.{entries}
 use Rattle.bt_bed.specs.model.Genome.{genome_handed}
 use Rattle.bt_files.specs.declared.files.Files.{Ghosts as Files}
+use Rattle.bt_front.specs.calls.Stream.{kept_of, source_of}
 use Rattle.bt_front.specs.calls.Survey.{LeavesText, Surveys}
+use Rattle.bt_front.specs.declared.stream.keeping.Keeping.{Keeping}
 use Rattle.bt_front.specs.declared.survey.Survey.{Survey}
 use Rattle.bt_front.specs.declared.survey.trouble.Trouble.{Trouble}
 use Rattle.bt_tool.specs.model.Table.{Word}
 use Rattle.drop_in.specs.calls.Opening.{IsRefused}
 use Rattle.drop_in.specs.calls.Whys.{file_why, stream_why}
 use Rattle.drop_in.specs.declared.genome_file.GenomeFile.{GenomeFile}
+use Rattle.drop_in.specs.declared.genome_file.Unfinished.{Unfinished}
+use Rattle.drop_in.specs.declared.genome_file.Unfinished.TheVariants.{Failed, Long, NoMemory}
 use Rattle.drop_in.specs.declared.looks.Left.{Left}
 use Rattle.drop_in.specs.declared.looks.ReadStream.{ReadStream}
 use Rattle.drop_in.specs.declared.looks.Reading.TheVariants.{File, Stream}
@@ -29,6 +33,37 @@ use Rattle.drop_in.specs.declared.why.Why.{Why}
 pub record ReadsText {S : Type 0} (source : Source S) (before : S) (text : List ℕ) : Type 0 where
   pub after : S
   pub served : EndsAfter source.is_read before text after
+
+module _ {S : Type 0} (source : Source S) where
+  -- these bytes were handed over, and then a read may have failed
+  abbrev pub StopsAfter : S → List ℕ → S → Type 0
+  StopsAfter before bytes after = ReadsOn source.is_read before bytes after ⊎ FailsAfter source.is_read before bytes after
+
+  -- it says that a read failed
+  pub record IsCutOff (before : S) : Type 0 where
+    pub bytes : List ℕ
+    pub after : S
+    pub stops : StopsAfter before bytes after
+    pub failed : source.has_failed after ≡ true
+
+  -- it handed over more bytes than there is room for
+  pub record IsLong (before : S) (room : ℕ) : Type 0 where
+    pub bytes : List ℕ
+    pub after : S
+    pub stops : StopsAfter before bytes after
+    pub is_long : room < length bytes
+
+  -- why it isn't read to its end
+  abbrev pub IsUnfinished : S → ℕ → Unfinished → Type 0
+  IsUnfinished before room Failed = IsCutOff before
+  IsUnfinished before room Long = IsLong before room
+  IsUnfinished before room NoMemory = ⊤
+
+  -- the same of what is kept of it
+  abbrev pub Unfinishes : Keeping S → ℕ → Unfinished → Type 0
+  Unfinishes keeping room Failed = source.has_failed (source_of keeping) ≡ true
+  Unfinishes keeping room Long = room < length (kept_of keeping)
+  Unfinishes keeping room NoMemory = ⊤
 
 -- A stream was surveyed, and all that it gave is kept, in order.
 abbrev pub SurveysStream : {I : Type 0} → Source I → I → ReadStream I → Result Survey Trouble → Type 0

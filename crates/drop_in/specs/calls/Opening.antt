@@ -33,7 +33,7 @@ module _ {F I O : Type 0} (files : Files F I O) where
   OpensInputIf is_stream before (Some name) (Some input) after = OpensInput is_stream before name input after
   OpensInputIf is_stream before name input after = ⊥
 
-  -- All files of a call were opened: the genome file once, and each input twice. None of them was read before the last was opened.
+  -- All files of a call were opened, in this order: the genome file once, and each input twice.
   pub record OpensAll (before : F) (names : Named) (streams : Streams) (opened : OpenedFiles I) (after : F) : Type 0 where
     pub with_genome : F
     pub with_first : F
