@@ -21,17 +21,18 @@ FILES = {
     "cr.bed": b"chr1\t2\t4\tp\r\r\nchr1\t3\t9\tq\n",
     "nul.bed": b"chr1\t2\t4\tp\nchr1\t3\t9\tq\0r\n",
     "long.bed": b"chr1\t2\t4\tp\nchr1\t3\t9\t" + LONG + b"\n",
-    "header.bed": b"chr1\t2\t4\tp\nTrack1\t3\t9\tq\n",
+    "header.bed": b"chr1\t2\t4\tp\nTrack1\t3\t9\tq\nchr2\t5\t9\tr\n",
+    "track.bed": b"chr1\t2\t4\tp\ntrack1\t3\t9\tq\nchr2\t5\t9\tr\n",
     "back.bed": b"chr1\t2\t4\tp\nchr1\t40\t50\tq\nchr1\t3\t5\tr\n",
     "again.bed": b"chr1\t2\t4\tp\nchr2\t40\t50\tq\nchr1\t3\t5\tr\n",
     "columns.bed": b"chr1\t2\t4\tp\nchr1\t6\n",
     "g.txt": b"chr1\t100\nchr2\t100\n",
-    "track.txt": b"chr1\t100\nTrack1\t100\n",
+    "track.txt": b"chr1\t100\nTrack1\t100\ntrack1\t100\nchr2\t100\n",
 }
 BLANK = "{}:2 is a blank line: bedtools merges nothing across it"
 IGNORED = "{}:2 is a blank line: bedtools ignores what follows"
 RETURNS = "{}:1 has CR CR: bedtools leaves out both at the end of a line"
-NUL = "{}:2 has a NUL: bedtools leaves out the rest of that column"
+NUL = "{}:2 has a NUL: bedtools leaves out the rest of the column or line"
 LONG_LINE = "{}:2 is a long line: bedtools cuts some lines after 1,023 bytes"
 HEADER = "{}:2 begins as a header line: bedtools may leave it out"
 ORDER = "{}:3 is out of order: bedtools may lose hits"
@@ -69,7 +70,8 @@ ROWS = [
     Row("complement -i long.bed -g g.txt", "", ""),
     Row("merge -i header.bed", HEADER, "header.bed"),
     Row("subtract -a header.bed -b ok.bed", HEADER, "header.bed"),
-    Row("genomecov -bga -i header.bed -g track.txt", "", ""),
+    Row("genomecov -bga -i header.bed -g track.txt", HEADER, "header.bed"),
+    Row("genomecov -bg -i track.bed -g track.txt", HEADER, "track.bed"),
     Row("intersect -sorted -c -a ok.bed -b back.bed -g g.txt", ORDER, "back.bed"),
     Row("intersect -sorted -c -a ok.bed -b again.bed -g g.txt", ORDER, "again.bed"),
     Row("intersect -sorted -c -a ok.bed -b back.bed", "", ""),

@@ -1,2 +1,3 @@
 -- What calls do, as contracts say it.
 pub mod Listing
+pub mod Order

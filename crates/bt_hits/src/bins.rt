@@ -1,6 +1,7 @@
 //! The bins of bedtools.
 
 ghost use Rattle.std.specs.Prelude.{◌≡◌, ◌≤◌};
+ghost use Rattle.bt_hits.specs.calls.Order.{bin_order_has_all};
 ghost use Rattle.bt_hits.specs.model.Bins.{level_of};
 
 use bt_bed::Rec;
@@ -30,3 +31,9 @@ pub(crate) fn level_of(rec: &Rec) -> usize
     }
     LEVELS
 }
+
+/// The order of bedtools has each hit of a record as often as it comes, and no others: a law, whose function does nothing.
+#[tactic(auto, using(crate::proofs::lemmas::Orders::order_has_all))]
+pub fn bin_order_has_all_hits()
+    ensures { bin_order_has_all }
+{}

@@ -39,5 +39,6 @@ mod reading;
 mod tests;
 mod writing;
 
+pub use bins::bin_order_has_all_hits;
 pub use listing::{BothRecords, Listing, list_hits};
 pub use reading::{Unread, records_of};

@@ -9,7 +9,7 @@ ghost use Rattle.bt_hits.specs.inside.Ending.{EndsPutting};
 ghost use Rattle.bt_hits.specs.inside.Meeting.{ListsNext, Sees};
 ghost use Rattle.bt_hits.specs.model.Bins.{intersect_by_bins};
 
-use crate::meeting::{drop_passed, take_up_to};
+use crate::meeting::{Near, count_undecided, drop_passed, take_up_to};
 use crate::reading::record_at;
 use crate::writing::put_levels;
 use bt_bed::{ChromOrder, Rec};
@@ -56,14 +56,13 @@ pub struct BothRecords {
     pub second: VecDeque<Rec>,
 }
 
-// Passes on what is held back, and gives the fault that it ends with.
+// Passes on what is held back, and gives the fault that it ends with: a failed write before any other.
 fn finished<K: Sink>(put: Result<(), Fault>, out: &mut Out<K>) -> Option<Fault>
     ensures { EndsPutting put out.old.output (option_map fault_value result) out.new.output }
 {
-    let flushed = out.flush();
-    match put {
+    match out.flush() {
         Err(fault) => Some(fault),
-        Ok(()) => match flushed {
+        Ok(()) => match put {
             Ok(()) => None,
             Err(fault) => Some(fault),
         },
@@ -119,5 +118,10 @@ fn put_next<O: ChromOrder, K: Sink>(
         return Err(no_memory());
     };
     drop_passed(order, a, active);
-    put_levels(listing, a, active.as_slice(), out)
+    let near = Near {
+        active: active.as_slice(),
+        rest,
+        ahead: count_undecided(order, a, rest),
+    };
+    put_levels(listing, a, &near, out)
 }

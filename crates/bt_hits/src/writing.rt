@@ -1,7 +1,6 @@
 //! The lines of one record.
 
-ghost use Rattle.std.specs.Prelude.{◌≡◌, ◌≤◌, ◌<◌, All, ◌∷◌, [], filter, flat_map, true, decimal};
-ghost use Rattle.std.specs.List.{slice_get};
+ghost use Rattle.std.specs.Prelude.{◌≡◌, ◌≤◌, ◌<◌, All, IfSome, ◌∷◌, [], filter, flat_map, true, decimal};
 ghost use Rattle.std.specs.Option.{option_copied, option_to_list};
 ghost use Rattle.bt_lines.specs.calls.Output.{Adds, Puts};
 ghost use Rattle.bt_bed.specs.calls.Bed.{feature_lent};
@@ -10,10 +9,12 @@ ghost use Rattle.bt_sweep.specs.model.Hits.{shared_bases};
 ghost use Rattle.bt_sweep.specs.model.Lines.{hit_line, line_with};
 ghost use Rattle.bt_hits.specs.model.Bins.{all_levels, level_of};
 ghost use Rattle.bt_hits.specs.calls.Listing.{has_line_each};
+ghost use Rattle.bt_hits.specs.inside.Meeting.{AreWithin, records_near};
 ghost use Rattle.bt_hits.specs.inside.Writing.{hits_by_level, is_hit_on};
 
 use crate::bins::level_of;
 use crate::listing::Listing;
+use crate::meeting::Near;
 use bt_bed::{BedRef, Rec, put_bed, put_cut};
 use bt_lines::{Fault, Out, Sink, put_number};
 use bt_sweep::{HitRule, Shape, is_hit};
@@ -22,38 +23,43 @@ use bt_sweep::{HitRule, Shape, is_hit};
 pub(crate) fn put_levels<K: Sink>(
     listing: Listing,
     a: &Rec,
-    held: &[Rec],
+    near: &Near<'_>,
     out: &mut Out<K>,
 ) -> Result<(), Fault>
-    requires { has_line_each listing.shape ≡ true }
-    ensures { Adds out.old.output (flat_map (hit_line listing.shape a.now) (hits_by_level listing.rule a.now all_levels held.now))
-        result out.new.output }
+    requires shape { has_line_each listing.shape ≡ true }
+    requires within { AreWithin near.now }
+    ensures { Adds out.old.output (flat_map (hit_line listing.shape a.now)
+        (hits_by_level listing.rule a.now all_levels (records_near near.now))) result out.new.output }
 {
-    for level in 0..levels_in(held) {
-        put_level(listing, level, a, held, out)?;
+    for level in 0..levels_in(near) {
+        put_level(listing, level, a, near, out)?;
     }
     Ok(())
 }
 
 // How many levels have all of these records.
-fn levels_in(held: &[Rec]) -> usize
+fn levels_in(near: &Near<'_>) -> usize
+    requires { AreWithin near.now }
     ensures within { result ≤ 8 }
-    ensures below { All (λ b. level_of b < result) held.now }
+    ensures below { All (λ b. level_of b < result) (records_near near.now) }
 {
     let mut count = 0;
-    for rec in held {
-        count = levels_with(count, rec);
+    for index in 0..near.len() {
+        count = levels_with(count, near.nth(index));
     }
     count
 }
 
-// How many levels have a record too.
-fn levels_with(count: usize, rec: &Rec) -> usize
+// How many levels have a record too, if there is one.
+fn levels_with(count: usize, b: Option<&Rec>) -> usize
     ensures least { count ≤ result }
-    ensures above { level_of rec.now < result }
+    ensures above { IfSome (option_copied b.entry) (λ b. level_of b < result) }
     ensures within { count ≤ 8 → result ≤ 8 }
 {
-    let above = level_of(rec) + 1;
+    let Some(b) = b else {
+        return count;
+    };
+    let above = level_of(b) + 1;
     if count < above { above } else { count }
 }
 
@@ -62,24 +68,18 @@ fn put_level<K: Sink>(
     listing: Listing,
     level: usize,
     a: &Rec,
-    held: &[Rec],
+    near: &Near<'_>,
     out: &mut Out<K>,
 ) -> Result<(), Fault>
-    requires { has_line_each listing.shape ≡ true }
-    ensures { Adds out.old.output (flat_map (hit_line listing.shape a.now) (filter (is_hit_on listing.rule level a.now) held.now))
-        result out.new.output }
+    requires shape { has_line_each listing.shape ≡ true }
+    requires within { AreWithin near.now }
+    ensures { Adds out.old.output (flat_map (hit_line listing.shape a.now)
+        (filter (is_hit_on listing.rule level a.now) (records_near near.now))) result out.new.output }
 {
-    for index in 0..held.len() {
-        put_if_on(listing, level, a, nth(held, index), out)?;
+    for index in 0..near.len() {
+        put_if_on(listing, level, a, near.nth(index), out)?;
     }
     Ok(())
-}
-
-// The record at this index, if there is one.
-fn nth(held: &[Rec], index: usize) -> Option<&Rec>
-    ensures { option_copied result ≡ slice_get held.now index }
-{
-    held.get(index)
 }
 
 // Puts the line of a record, if there is one that hits the record and is on this level.

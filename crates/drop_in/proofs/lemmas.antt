@@ -4,6 +4,7 @@ pub mod GzipLemmas
 pub mod HitLemmas
 pub mod KeptLemmas
 pub mod MarkLemmas
+pub mod OddLemmas
 pub mod OriginalLemmas
 pub mod TakenLemmas
 pub mod WordsLemmas

@@ -1,6 +1,7 @@
 -- What calls do, as contracts say it.
 pub mod Answer
 pub mod Call
+pub mod GenomeFiles
 pub mod Gzip
 pub mod Hits
 pub mod Inputs

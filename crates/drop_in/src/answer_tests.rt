@@ -122,7 +122,7 @@ const BLANK: Why = Why::Text(
 );
 
 #[rattlefmt::skip]
-const ROWS: [Row; 21] = [
+const ROWS: [Row; 22] = [
     ("merge -i a", FILES, ONE, b"", b"", Some(b"chr1\t1\t9\n"), None, None),
     ("merge -i a", FIRST_STREAM, ONE, b"", b"", Some(b"chr1\t1\t9\n"), None, None),
     ("merge -i a", FILES, OTHER, b"", b"", Some(b"chr2\t0\t4\nchr1\t2\t4\n"), None, None),
@@ -131,6 +131,7 @@ const ROWS: [Row; 21] = [
     ("intersect -v -a a -b b", FIRST_STREAM, OTHER, b"chr1\t3\t4\n", b"", Some(b"chr2\t0\t4\n"), None, None),
     ("complement -i a -g g", FILES, ONE, b"", b"chr1\t20\n", Some(b"chr1\t0\t1\nchr1\t9\t20\n"), None, None),
     ("complement -i a -g g", FILES, ONE, b"", b"#chr\t5\nchr1\t20\n", None, Some(Why::TabInComment), None),
+    ("complement -i a -g g", FILES, ONE, b"", b"chr1\t20\nch\0r2\t5\n#chr\t5\n", None, Some(Why::NulInGenome), None),
     ("complement -i a -g g", FILES, ONE, b"", b"chr2\t20\n", None, Some(Why::Verdict(Reason::NotByGenome)), None),
     ("intersect -sorted -u -a a -b b", FIRST_STREAM, OTHER, OTHER, b"", None, Some(Why::Verdict(Reason::NotByBytes)), Some(OTHER)),
     ("merge -i a", FIRST_STREAM, b"chr1\t1\t5\n\nchr1\t3\t9\n", b"", b"", None, Some(BLANK), Some(b"chr1\t1\t5\n\nchr1")),

@@ -6,6 +6,7 @@ ghost use Rattle.bt_front.specs.model.Verdict.{has_survey, lists_hits, names_see
 ghost use Rattle.bt_front.specs.model.Fitting.{common_names, order_text as text_of_order};
 ghost use Rattle.drop_in.specs.calls.Answer.{Answers, ListsTaken, LeavesCall, LeavesFiles, LeavesOpened, LeavesStreams, Looks, LooksAtOpened, SeesInputs};
 ghost use Rattle.drop_in.specs.calls.Call.{AreReady, AreRunnable, IsLeftByVerdict, IsOrder, IsTaken, Reads, RunsInputs, entries_if, plan_by, reading_if, stream_among, stream_of, survey_if};
+ghost use Rattle.drop_in.specs.calls.GenomeFiles.{IsWhyOfGenomeIf};
 ghost use Rattle.drop_in.specs.calls.Looks.{LeavesIfFile, LeavesInput, LeavesInputIf, LeavesOther, ReadsGenomeIf, SeesFiles, SeesIfFile, SeesInput, SeesInputIf, SeesOther};
 ghost use Rattle.drop_in.specs.calls.Whys.{IsWhyOfOrder, IsWhyOfWays, IsWhyOfVerdict};
 ghost use Rattle.bt_lines.specs.declared.fault.Input.TheVariants.{Second};
@@ -77,7 +78,7 @@ fn list_taken<I: Source + Drop, F: Files<Input = I>>(
     room: usize,
 ) -> (Answered<I, F::Output>, F)
     requires { lists_hits plan.now.command ≡ true }
-    ensures { ListsTaken F.Files I.Source F.Output.Sink files (plan_seen plan.now) inputs result.0 result.1 }
+    ensures { ListsTaken F.Files I.Source F.Output.Sink files (plan_seen plan.now) inputs room result.0 result.1 }
 {
     let mut now = files;
     match list_inputs(alloc, &mut now, plan, inputs, room) {
@@ -222,7 +223,7 @@ fn look_at_opened<F: Files>(
 // Reads the genome file, if the call has one.
 fn genome_of<I: Source + Drop>(alloc: Global, opened: Option<I>) -> Result<Option<GenomeFile>, Why>
     ensures reads { IfOk result (ReadsGenomeIf I.Source opened) }
-    ensures some { IfErr result (λ why. is_some opened ≡ true) }
+    ensures why { IfErr result (IsWhyOfGenomeIf I.Source opened) }
 {
     match opened {
         Some(source) => match read_genome(alloc, source) {

@@ -4,18 +4,16 @@ ghost use Rattle.std.specs.Prelude.{ℕ, List, [], ◌∷◌, ◌++◌, ◌≡�
 ghost use Rattle.bt_front.specs.calls.Survey.{IsTroubleOf};
 ghost use Rattle.bt_front.specs.model.Survey.{IsSurveyOf};
 ghost use Rattle.drop_in.specs.calls.Gzip.{has_extra_fields, is_bam, is_one_part, tells_length};
-ghost use Rattle.drop_in.specs.calls.Looks.{IsUnzipped, IsWhyUnread, IsWhyUnzipped, LeavesGzip, ReadsText, SeesGzip};
+ghost use Rattle.drop_in.specs.calls.Looks.{IsUnzipped, IsWhyUnzipped, LeavesGzip, ReadsText, SeesGzip};
 ghost use Rattle.drop_in.specs.calls.Whys.{unread_why, unzipped_why};
 
+use crate::genome_file::{Unfinished, read_text};
 use crate::looks::{Reading, Seen, text_why};
 use crate::opening::OpenedGzip;
 use crate::why::Why;
-use bt_front::{Keeping, Survey, Trouble};
+use bt_front::{Survey, Trouble};
 use bt_lines::{FromRead, Input, Source};
 use std::alloc::Global;
-
-// How many bytes are read together.
-const PIECE: usize = 8192;
 
 /// Looks at the text of a gzip file, of which as many bytes are kept as there is room for.
 pub fn look_at_gzip<I: Source + Drop>(
@@ -68,51 +66,23 @@ fn unzip<I: Source + Drop>(
     ensures leaves { IfErr result (IsWhyUnzipped I.Source gzip input room) }
 {
     let OpenedGzip { zipped, text } = gzip;
-    let bytes = match read_all(alloc, text, input, room) {
+    let bytes = match read_text(alloc, text, room) {
         Ok(bytes) => bytes,
-        Err(why) => return Err(why),
+        Err(cause) => return Err(unread_why(input, cause)),
     };
     let text = match without_end(bytes) {
         Some(text) => text,
         None => return Err(Why::Unzip(input)),
     };
-    let zipped = match read_all(alloc, zipped, input, room) {
+    let zipped = match read_text(alloc, zipped, room) {
         Ok(zipped) => zipped,
-        Err(why) => return Err(why),
+        Err(cause) => return Err(unread_why(input, cause)),
     };
     if is_one_part(zipped.as_slice(), text.len()) {
         Ok(text)
     } else {
         Err(Why::Parts(input))
     }
-}
-
-// All that a source hands over, up to its end, unless that is more than there is room for.
-fn read_all<S: Source + Drop>(
-    alloc: Global,
-    source: S,
-    input: Input,
-    room: usize,
-) -> Result<Vec<u8>, Why>
-    ensures reads { IfOk result (λ text. ReadsText S.Source source text.items) }
-    ensures leaves { IfErr result (IsWhyUnread S.Source source input room) }
-{
-    let mut keeping = Keeping::new(alloc, source, room);
-    let mut piece = [0u8; PIECE];
-    for _ in 0..u64::MAX {
-        match keeping.read(&mut piece) {
-            Ok(0) => {
-                let (_source, text) = keeping.into_parts();
-                return Ok(text);
-            }
-            Ok(_) => {}
-            Err(_failed) => {
-                let (source, kept) = keeping.into_parts();
-                return Err(unread_why(input, room < kept.len(), source.failed()));
-            }
-        }
-    }
-    Err(Why::NoMemory)
 }
 
 // The text without the NUL that comes after it; none if it has no NUL there.
@@ -127,14 +97,13 @@ fn without_end(bytes: Vec<u8>) -> Option<Vec<u8>>
     }
 }
 
-// Why a text that wasn't read to its end leaves the call.
-fn unread_why(input: Input, is_long: bool, has_failed: bool) -> Why
-    ensures { result ≡ unread_why input is_long has_failed }
+// Why a text that isn't read to its end leaves the call.
+fn unread_why(input: Input, cause: Unfinished) -> Why
+    ensures { result ≡ unread_why input cause }
 {
-    if is_long || has_failed {
-        Why::Unzip(input)
-    } else {
-        Why::NoMemory
+    match cause {
+        Unfinished::Failed | Unfinished::Long => Why::Unzip(input),
+        Unfinished::NoMemory => Why::NoMemory,
     }
 }
 

@@ -1,22 +1,22 @@
 //! Calls whose hits have to be put in order: both texts are kept in memory for that.
 
-ghost use Rattle.std.specs.Prelude.{◌≡◌, IfErr, IfNone, IfOk, IfSome, None, true};
+ghost use Rattle.std.specs.Prelude.{◌≡◌, ◌<◌, ◌+◌, ◌-◌, IfErr, IfNone, IfOk, IfSome, None, false, true};
 ghost use Rattle.bt_bed.specs.calls.Orders.{ArePlaced};
 ghost use Rattle.bt_bed.specs.model.Feature.{intervals_of};
 ghost use Rattle.bt_front.specs.model.Verdict.{lists_hits};
 ghost use Rattle.bt_hits.specs.calls.Listing.{AreRecordsOf};
 ghost use Rattle.bt_tool.specs.calls.Plan.{plan_seen};
 ghost use Rattle.drop_in.specs.calls.Call.{stream_among};
-ghost use Rattle.drop_in.specs.calls.Hits.{AreKept, IsKept, IsListing, IsWhyOfHits, ListsBy, ListsInputs, kept_stream, kept_text, stream_kept, stream_read};
+ghost use Rattle.drop_in.specs.calls.Hits.{AreKept, AreUnkept, IsKept, IsListing, IsUnkept, IsWhyOfHits, IsWhyOfKept, ListsBy, ListsInputs, kept_stream, kept_text, stream_kept, stream_read, text_len, unkept_why};
 
 use crate::answering::{Inputs, stream_among};
-use crate::genome_file::{genome_in, read_text};
+use crate::genome_file::{Unfinished, genome_in, read_text};
 use crate::looks::{Left, ReadStream, Reading};
 use crate::why::Why;
 use bt_bed::{ByteOrder, ChromOrder, Rec};
 use bt_files::{Files, Message, end_of};
 use bt_hits::{BothRecords, Listing, Unread, list_hits, records_of};
-use bt_lines::Source;
+use bt_lines::{Input, Source};
 use bt_tool::{Command, Outcome, Plan};
 use std::alloc::Global;
 use std::collections::VecDeque;
@@ -45,7 +45,7 @@ pub struct KeptTexts<I> {
 }
 
 /// Lists the hits of a call that the verdict takes, in the order of bedtools. It is left, and no output is made, if one of its
-/// texts is longer than there is room for.
+/// texts is longer than there is room for, or can't be read.
 pub fn list_inputs<I: Source + Drop, F: Files<Input = I>>(
     alloc: Global,
     files: &mut F,
@@ -57,7 +57,7 @@ pub fn list_inputs<I: Source + Drop, F: Files<Input = I>>(
     ensures lists { IfOk result (λ listed. ListsInputs F.Files F.Output.Sink I.Source files.old (plan_seen plan.now) inputs listed
         files.new) }
     ensures stream { IfErr result (λ left. left.stream ≡ stream_among inputs.first inputs.second) }
-    ensures why { IfErr result (λ left. IsWhyOfHits left.why) }
+    ensures why { IfErr result (λ left. IsWhyOfHits I.Source inputs room left.why) }
     ensures unopened { IfErr result (λ left. files.new ≡ files.old) }
 {
     let Inputs {
@@ -67,10 +67,7 @@ pub fn list_inputs<I: Source + Drop, F: Files<Input = I>>(
     } = inputs;
     let texts = match keep_both(alloc, first, second, room) {
         Ok(texts) => texts,
-        Err(stream) => return Err(Left {
-            why: Why::HitsRoom,
-            stream,
-        }),
+        Err(left) => return Err(left),
     };
     match genome {
         None => list_by(alloc, files, plan, &ByteOrder, texts),
@@ -84,39 +81,58 @@ pub fn list_inputs<I: Source + Drop, F: Files<Input = I>>(
     }
 }
 
-// Keeps the texts of both inputs, or gives the stream among them.
+// Keeps the texts of both inputs.
 fn keep_both<I: Source + Drop>(
     alloc: Global,
     first: Reading<I>,
     second: Option<Reading<I>>,
     room: usize,
-) -> Result<KeptTexts<I>, Option<ReadStream<I>>>
+) -> Result<KeptTexts<I>, Left<I>>
     ensures keeps { IfOk result (AreKept I.Source first second) }
-    ensures leaves { IfErr result (λ stream. stream ≡ stream_among first second) }
+    ensures stream { IfErr result (λ left. left.stream ≡ stream_among first second) }
+    ensures why { IfErr result (λ left. AreUnkept I.Source first second room left.why) }
 {
     let Some(second) = second else {
-        return Err(stream_among(first, None));
+        return Err(Left {
+            why: Why::HitsRoom,
+            stream: stream_among(first, None),
+        });
     };
     let Some(room) = room_beside(&first, &second, room) else {
-        return Err(stream_among(first, Some(second)));
+        return Err(Left {
+            why: Why::HitsRoom,
+            stream: stream_among(first, Some(second)),
+        });
     };
-    let first = match keep(alloc, first, room) {
-        Some(first) => first,
-        None => return Err(stream_of(second)),
+    let first = match keep(alloc, first, Input::First, room) {
+        Ok(first) => first,
+        Err(why) => return Err(Left {
+            why,
+            stream: stream_of(second),
+        }),
     };
-    match keep(alloc, second, room) {
-        Some(second) => Ok(KeptTexts { first, second }),
-        None => Err(kept_stream(first)),
+    match keep(alloc, second, Input::Second, room) {
+        Ok(second) => Ok(KeptTexts { first, second }),
+        Err(why) => Err(Left {
+            why,
+            stream: kept_stream(first),
+        }),
     }
 }
 
 // How many bytes there is room for beside the texts of gzip files, which are kept; none if they don't fit.
-fn room_beside<I>(first: &Reading<I>, second: &Reading<I>, room: usize) -> Option<usize> {
+fn room_beside<I>(first: &Reading<I>, second: &Reading<I>, room: usize) -> Option<usize>
+    ensures left { IfSome result (λ left. left ≡ room - text_len first.now - text_len second.now) }
+    ensures full { IfNone result (room < text_len first.now + text_len second.now) }
+{
     room.checked_sub(text_len(first))?
         .checked_sub(text_len(second))
 }
 
-fn text_len<I>(reading: &Reading<I>) -> usize {
+// How many bytes of an input are in memory since it was surveyed.
+fn text_len<I>(reading: &Reading<I>) -> usize
+    ensures { result ≡ text_len reading.now }
+{
     match reading {
         Reading::Text(text) => text.len(),
         Reading::File(_) | Reading::Stream(_) => 0,
@@ -124,17 +140,34 @@ fn text_len<I>(reading: &Reading<I>) -> usize {
 }
 
 // Keeps the text of an input: a file is read now.
-fn keep<I: Source + Drop>(alloc: Global, reading: Reading<I>, room: usize) -> Option<Kept<I>>
-    ensures keeps { IfSome result (IsKept I.Source reading) }
-    ensures file { IfNone result (stream_read reading ≡ None) }
+fn keep<I: Source + Drop>(
+    alloc: Global,
+    reading: Reading<I>,
+    input: Input,
+    room: usize,
+) -> Result<Kept<I>, Why>
+    ensures keeps { IfOk result (IsKept I.Source reading) }
+    ensures file { IfErr result (λ why. stream_read reading ≡ None) }
+    ensures why { IfErr result (IsUnkept I.Source reading input room) }
 {
     match reading {
         Reading::File(source) => match read_text(alloc, source, room) {
-            Some(text) => Some(Kept::File(text)),
-            None => None,
+            Ok(text) => Ok(Kept::File(text)),
+            Err(cause) => Err(unkept_why(input, cause)),
         },
-        Reading::Stream(stream) => Some(Kept::Stream(stream)),
-        Reading::Text(text) => Some(Kept::File(text)),
+        Reading::Stream(stream) => Ok(Kept::Stream(stream)),
+        Reading::Text(text) => Ok(Kept::File(text)),
+    }
+}
+
+// Why a file isn't kept.
+fn unkept_why(input: Input, cause: Unfinished) -> Why
+    ensures { result ≡ unkept_why input cause }
+{
+    match cause {
+        Unfinished::Failed => Why::Unopened(input),
+        Unfinished::Long => Why::HitsRoom,
+        Unfinished::NoMemory => Why::NoMemory,
     }
 }
 
@@ -182,12 +215,12 @@ fn list_by<I: Source + Drop, F: Files<Input = I>, O: ChromOrder>(
     ensures lists { IfOk result (λ listed. ListsBy F.Files F.Output.Sink files.old (plan_seen plan.now) (O.order order.now) texts
         listed files.new) }
     ensures stream { IfErr result (λ left. left.stream ≡ stream_kept texts) }
-    ensures why { IfErr result (λ left. IsWhyOfHits left.why) }
+    ensures why { IfErr result (λ left. IsWhyOfKept left.why) }
     ensures unopened { IfErr result (λ left. files.new ≡ files.old) }
 {
     let Some(listing) = listing_of(plan.command) else {
         return Err(Left {
-            why: Why::HitsRoom,
+            why: Why::Changed,
             stream: stream_kept(texts),
         });
     };
@@ -208,7 +241,8 @@ fn list_by<I: Source + Drop, F: Files<Input = I>, O: ChromOrder>(
 
 // What a command lists of each hit.
 fn listing_of(command: Command) -> Option<Listing>
-    ensures { IfSome result (IsListing command) }
+    ensures some { IfSome result (IsListing command) }
+    ensures none { IfNone result (lists_hits command ≡ false) }
 {
     match command {
         Command::Intersect { shape, rule, .. } => Some(Listing { shape, rule }),
@@ -226,7 +260,7 @@ fn records_in<I, O: ChromOrder>(
     ensures second { IfOk result (λ records. AreRecordsOf (O.order order.now) (kept_text texts.now.second) records.second.items) }
     ensures first_placed { IfOk result (λ records. ArePlaced (O.order order.now) (intervals_of records.first.items)) }
     ensures second_placed { IfOk result (λ records. ArePlaced (O.order order.now) (intervals_of records.second.items)) }
-    ensures why { IfErr result IsWhyOfHits }
+    ensures why { IfErr result IsWhyOfKept }
 {
     let first = match records_of_kept(alloc, order, &texts.first) {
         Ok(first) => first,
@@ -246,7 +280,7 @@ fn records_of_kept<I, O: ChromOrder>(
 ) -> Result<VecDeque<Rec>, Why>
     ensures records { IfOk result (λ records. AreRecordsOf (O.order order.now) (kept_text kept.now) records.items) }
     ensures placed { IfOk result (λ records. ArePlaced (O.order order.now) (intervals_of records.items)) }
-    ensures why { IfErr result IsWhyOfHits }
+    ensures why { IfErr result IsWhyOfKept }
 {
     let text = match kept {
         Kept::File(text) => text.as_slice(),

@@ -1,7 +1,7 @@
 //! What is said if a call goes to bedtools with a line on which that loses or changes output silently.
 
 ghost use Rattle.std.specs.Prelude.{◌≡◌};
-ghost use Rattle.drop_in.specs.calls.Warnings.{blank_does, has_one_reader, line_of, order_does, silent_of, silent_on, warning_of, writes_lines, writes_second};
+ghost use Rattle.drop_in.specs.calls.Warnings.{blank_does, has_one_reader, line_of, order_does, passes_headers, silent_of, silent_on, warning_of, writes_lines, writes_second};
 
 use crate::why::Why;
 use bt_front::{Oddity, Trouble};
@@ -18,7 +18,7 @@ pub enum Silent {
     EndsRun,
     /// It leaves out both carriage returns.
     DropsReturns,
-    /// It leaves out the rest of a column.
+    /// It leaves out the rest of a column, or of the line if that isn't the last one.
     CutsColumn,
     /// It cuts some of the lines that it writes.
     CutsLine,
@@ -35,7 +35,7 @@ impl Silent {
             Silent::EndsInput => "is a blank line: bedtools ignores what follows",
             Silent::EndsRun => "is a blank line: bedtools merges nothing across it",
             Silent::DropsReturns => "has CR CR: bedtools leaves out both at the end of a line",
-            Silent::CutsColumn => "has a NUL: bedtools leaves out the rest of that column",
+            Silent::CutsColumn => "has a NUL: bedtools leaves out the rest of the column or line",
             Silent::CutsLine => "is a long line: bedtools cuts some lines after 1,023 bytes",
             Silent::SkipsRecord => "begins as a header line: bedtools may leave it out",
             Silent::LosesHits => "is out of order: bedtools may lose hits",
@@ -106,7 +106,7 @@ impl Case {
                 is_merge || writes_lines(self.command, input),
                 Silent::CutsLine,
             ),
-            Oddity::HeaderName => (has_one_reader(self.command), Silent::SkipsRecord),
+            Oddity::HeaderName => (passes_headers(self.command), Silent::SkipsRecord),
             _ => return None,
         };
         if is_met { Some(silent) } else { None }
@@ -165,6 +165,13 @@ fn has_one_reader(command: Command) -> bool
         | Command::Subtract { .. } => true,
         Command::Coverage { .. } | Command::BamToBed { .. } | Command::MaskFasta { .. } => false,
     }
+}
+
+// Whether bedtools may pass over a record whose name begins as a header line does.
+fn passes_headers(command: Command) -> bool
+    ensures { result ≡ passes_headers command }
+{
+    matches!(command, Command::Coverage { .. }) || has_one_reader(command)
 }
 
 // The line of what leaves a text to bedtools, if it has one.

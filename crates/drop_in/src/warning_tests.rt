@@ -32,7 +32,7 @@ const ROWS: [Row; 23] = [
     ("complement -i a -g g", Input::First, Oddity::Long, None),
     ("merge -i a", Input::First, Oddity::HeaderName, Some(Silent::SkipsRecord)),
     ("subtract -a a -b b", Input::Second, Oddity::HeaderName, Some(Silent::SkipsRecord)),
-    ("genomecov -bga -i a -g g", Input::First, Oddity::HeaderName, None),
+    ("genomecov -bga -i a -g g", Input::First, Oddity::HeaderName, Some(Silent::SkipsRecord)),
     ("merge -i a", Input::First, Oddity::ByteOrderMark, None),
     ("merge -i a", Input::First, Oddity::Vcf, None),
     ("merge -i a", Input::First, Oddity::FarEnd, None),

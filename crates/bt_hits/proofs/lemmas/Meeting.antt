@@ -43,6 +43,15 @@ module _ (order : Order) (total : IsTotal order) (rule : HitRule) (a : Feature) 
   follows_itself : Follows a
   follows_itself = grind arith
 
+  rest_decide : (bs : List Feature) → ArePlaced order (intervals_of bs) → FirstDecides order a bs → list_all (decides order a) bs ≡ true
+  rest_decide [] placed first = refl
+  rest_decide (b ∷ bs) placed first = and_from (decides order a b) (list_all (decides order a) bs) first (all_decide order a b bs total ka placed first)
+
+  -- what hits it comes before the first that decides it
+  pub hits_are : (all near far : List Feature) → ArePlaced order (intervals_of far) → FirstDecides order a far → hits_among rule a all ≡ hits_among rule a (near ++ far) → hits_among rule a all ≡ hits_among rule a near
+  hits_are all near far placed first e =
+      e ∙ filter-append (is_hit rule a) near far ∙ ap (λ l. hits_among rule a near ++ l) (none_hit order rule a far total ka placed (rest_decide far placed first)) ∙ append-nil (hits_among rule a near)
+
   module _ (all active rest : List Feature) where
     abbrev kept : List Feature
     kept = filter (λ y. not (is_passed order a y)) active
@@ -58,15 +67,6 @@ module _ (order : Order) (total : IsTotal order) (rule : HitRule) (a : Feature) 
     -- what is passed is dropped, and no record from this one on sees it
     pub sees_kept : (xs : List Feature) → ArePlaced order (intervals_of (a ∷ xs)) → Sees rule all (active ++ rest) (a ∷ xs) → Sees rule all (kept ++ rest) (a ∷ xs)
     sees_kept xs placed sees = sees_from a xs follows_itself placed sees
-
-    rest_decide : (bs : List Feature) → ArePlaced order (intervals_of bs) → FirstDecides order a bs → list_all (decides order a) bs ≡ true
-    rest_decide [] placed first = refl
-    rest_decide (b ∷ bs) placed first = and_from (decides order a b) (list_all (decides order a) bs) first (all_decide order a b bs total ka placed first)
-
-    -- what hits it is among those that were moved
-    pub hits_are : ArePlaced order (intervals_of rest) → FirstDecides order a rest → hits_among rule a all ≡ hits_among rule a (kept ++ rest) → hits_among rule a all ≡ hits_among rule a kept
-    hits_are placed first e =
-        e ∙ filter-append (is_hit rule a) kept rest ∙ ap (λ l. hits_among rule a kept ++ l) (none_hit order rule a rest total ka placed (rest_decide rest placed first)) ∙ append-nil (hits_among rule a kept)
 
 -- what hits a record lies on its chromosome
 pub hit_on : (rule : HitRule) (a b : Feature) → is_hit rule a b ≡ true → b.chrom ≡ a.chrom

@@ -1,5 +1,5 @@
 -- Lemmas on the lines of one record.
-use Rattle.bt_lines.proofs.Std.{◌≡◌, ℕ, ◌+◌, ◌<◌, ◌≤◌, Bool, true, false, cond, List, [], ◌∷◌, ◌++◌, Option, Some, zero, suc, add-one, arith, refl, sym, ap, subst, ◌∙◌, filter, flat_map, flat_map-append, option_to_list, take, drop, slice_get, Err, take-append-drop, append_assoc, append-nil, bytes_eq, ◌&&◌, ltb, ltb-true, min, max, ◌-◌, and_parts, All, AllByRecursion, recursion_from_All, eqb-true, false_from_ne_true, get_or, length, cases_lt, inl, inr, get_or_default}
+use Rattle.bt_lines.proofs.Std.{◌≡◌, ℕ, ◌+◌, ◌<◌, ◌≤◌, Bool, true, false, cond, List, [], ◌∷◌, ◌++◌, Option, Some, zero, suc, add-one, arith, refl, sym, ap, subst, ◌∙◌, filter, flat_map, flat_map-append, option_to_list, take, drop, slice_get, Err, take-append-drop, append_assoc, append-nil, bytes_eq, ◌&&◌, ltb, ltb-true, min, max, ◌-◌, and_parts, All, AllByRecursion, recursion_from_All, eqb-true, false_from_ne_true, get_or, length, cases_lt, inl, inr, None, IfSome, get_or_from_slice_get}
 use Rattle.bt_lines.specs.calls.Names.{fault_value}
 use Rattle.bt_lines.specs.calls.Output.{Output, Adds, FailsToAdd, Grown}
 use Rattle.bt_lines.specs.declared.fault.Fault.{Fault}
@@ -11,6 +11,7 @@ use Rattle.bt_sweep.specs.declared.hits.hit_rule.HitRule.{HitRule}
 use Rattle.bt_sweep.specs.model.Hits.{is_hit, shared_bases}
 use Rattle.bt_hits.specs.inside.Writing.{is_hit_on}
 use Rattle.bt_hits.specs.model.Bins.{all_levels, is_on, level_of}
+use Rattle.bt_hits.proofs.lemmas.Listing.{got_one}
 
 pub level_get : (n : ℕ) → n < 8 → slice_get all_levels n ≡ Some n
 level_get zero h = refl
@@ -109,13 +110,14 @@ levels_reach f rule a held n below =
     ∙ all_lines f (λ level. filter (is_hit_on rule level a) held) n
 
 -- the levels of one more
-pub levels_more : (held : List Feature) (i count next : ℕ) (x : Feature) → x ≡ get_or held i x → i < length held → count ≤ next → level_of x < next
+pub levels_more : (held : List Feature) (i count next : ℕ) (o : Option Feature) → o ≡ slice_get held i → i < length held → count ≤ next → IfSome o (λ b. level_of b < next)
     → ((k : ℕ) (d : Feature) → k < i → level_of (get_or held k d) < count) → (k : ℕ) (d : Feature) → k < i + 1 → level_of (get_or held k d) < next
-levels_more held i count next x is within more here below k d h =
+levels_more held i count next None is within more here below k d h = absurd (got_one held i within (sym is))
+levels_more held i count next (Some x) is within more here below k d h =
     elim (cases_lt k i) [
       | inl less ↦ omega (arith, below k d less)
       | inr least ↦
           let at_i : k ≡ i = omega arith in
-          let same : get_or held k d ≡ x = ap (λ j. get_or held j d) at_i ∙ get_or_default held i d x within ∙ sym is in
+          let same : get_or held k d ≡ x = ap (λ j. get_or held j d) at_i ∙ get_or_from_slice_get held i x d (sym is) in
           subst (λ (f : Feature). level_of f < next) (sym same) here
     ]

@@ -1,5 +1,5 @@
 -- What reading a text and listing hits do.
-use Rattle.std.specs.Prelude.{◌≡◌, ◌⊎◌, ℕ, Bool, true, false, List, ◌++◌, Option, None, Some, Result, Ok, Err}
+use Rattle.std.specs.Prelude.{◌≡◌, ◌≢◌, ◌⊎◌, ℕ, Bool, true, false, List, ◌++◌, Option, None, Some, Result, Ok, Err}
 use Rattle.std.specs.Io.KnownBytes.{Appends}
 use Rattle.bt_lines.specs.declared.device.Sink.{Ghosts as Sink}
 use Rattle.bt_lines.specs.declared.fault.Input.{Input}
@@ -29,12 +29,22 @@ has_line_each OrigBoth = true
 has_line_each Overlap = true
 has_line_each _ = false
 
--- what writing hits does to a sink: it took them all, or a prefix of them until a write failed or memory ran out
-abbrev pub WritesHits : {K : Type 0} → Sink K → K → List ℕ → Option FaultValue → K → Type 0
-WritesHits sink before lines None after =
-    Appends (sink.took before) (sink.took after) lines × (sink.is_flushed after ≡ true)
-WritesHits sink before lines (Some fault) after =
-    ((fault ≡ write_failed) ⊎ (fault ≡ no_memory)) × IsPrefixOf (sink.took after) (sink.took before) lines
+-- a fault of writing hits: a failed write, only if the sink failed, and its last call is one that did; or of memory
+abbrev pub TellsOutput : Bool → Bool → FaultValue → Type 0
+TellsOutput sink_failed last_failed fault =
+    ((fault ≡ write_failed) × (sink_failed ≡ true) × (last_failed ≡ true)) ⊎ (fault ≡ no_memory)
+
+-- what writing hits does to a sink
+pub record WritesHits {K : Type 0} (sink : Sink K) (before : K) (lines : List ℕ) (fault : Option FaultValue) (after : K)
+    : Type 0 where
+  -- it took a prefix of the lines
+  pub front : IsPrefixOf (sink.took after) (sink.took before) lines
+  -- without a fault it took them all
+  pub whole : fault ≡ None → Appends (sink.took before) (sink.took after) lines
+  -- unless a failed write is reported, it has passed on what it took, and all its writes and flushes served
+  pub flushed : fault ≢ Some write_failed → sink.is_flushed after ≡ true
+  pub no_failed_write : fault ≢ Some write_failed → sink.has_failed after ≡ sink.has_failed before
+  pub named : (told : FaultValue) → fault ≡ Some told → TellsOutput (sink.has_failed after) (sink.last_failed after) told
 
 -- what listing hits does to an output: memory may run out after the lines of some records, or a write fails
 pub record CutsOff (old : Output) (lines : List ℕ) (fault : FaultValue) (new : Output) : Type 0 where

@@ -1,5 +1,5 @@
 -- How the records of two inputs meet.
-use Rattle.std.specs.Prelude.{◌≡◌, ℕ, Bool, not, ◌||◌, List, [], ◌∷◌, ◌++◌, ⊤, bytes_eq, nat_le, if◌then◌else◌, true, false, All, IsTrue, Option, None, Some, Result, Ok, Err, ◌⊎◌}
+use Rattle.std.specs.Prelude.{◌≡◌, ℕ, ◌≤◌, length, take, Bool, not, ◌||◌, List, [], ◌∷◌, ◌++◌, ⊤, bytes_eq, nat_le, if◌then◌else◌, true, false, All, IsTrue, Option, None, Some, Result, Ok, Err, ◌⊎◌}
 use Rattle.std.specs.Ordering.{is_lt}
 use Rattle.bt_lines.specs.calls.Faults.{no_memory}
 use Rattle.bt_lines.specs.calls.Names.{fault_value}
@@ -7,7 +7,10 @@ use Rattle.bt_lines.specs.calls.Output.{FailsToAdd, Grown, Output}
 use Rattle.bt_lines.specs.declared.fault.Fault.{Fault}
 use Rattle.bt_bed.specs.calls.Orders.{ArePlaced}
 use Rattle.bt_bed.specs.model.Feature.{Feature, intervals_of}
+use Rattle.bt_bed.specs.model.Good.{locus_at}
 use Rattle.bt_bed.specs.model.Order.{Order}
+use Rattle.bt_bed.specs.model.Sorted.{is_below}
+use Rattle.bt_hits.specs.declared.meeting.Near.{Near}
 use Rattle.bt_sweep.specs.declared.hits.hit_rule.HitRule.{HitRule}
 use Rattle.bt_sweep.specs.declared.output.shape.Shape.{Shape}
 use Rattle.bt_sweep.specs.model.Hits.{decides, hits_among}
@@ -28,17 +31,41 @@ abbrev pub IsUndecided : Order → Feature → Option Feature → Bool → Type 
 IsUndecided order a None is = is ≡ false
 IsUndecided order a (Some b) is = is ≡ not (decides order a b)
 
+-- whether b comes at the place of a, or before
+abbrev pub comes_by : Order → Feature → Feature → Bool
+comes_by order a b = not (is_below order (locus_at a) (locus_at b))
+
+-- whether there is a record and it comes at the place of a, or before
+abbrev pub Comes : Order → Feature → Option Feature → Bool → Type 0
+Comes order a None is = is ≡ false
+Comes order a (Some b) is = is ≡ comes_by order a b
+
+-- the first of these, if there is one, comes after a
+abbrev pub FirstComesAfter : Order → Feature → List Feature → Type 0
+FirstComesAfter order a [] = ⊤
+FirstComesAfter order a (b ∷ more) = comes_by order a b ≡ false
+
 -- the first of these, if there is one, decides a
 abbrev pub FirstDecides : Order → Feature → List Feature → Type 0
 FirstDecides order a [] = ⊤
 FirstDecides order a (b ∷ more) = decides order a b ≡ true
 
--- records of the second input went over to those that may be hit
+-- those records of the second input that come by a went over to the active ones
 pub record MovesUpTo (order : Order) (a : Feature) (active rest now_active now_rest : List Feature) : Type 0 where
   pub moved : List Feature
   pub were : rest ≡ moved ++ now_rest
   pub are : now_active ≡ active ++ moved
-  pub reached : FirstDecides order a now_rest
+  pub reached : FirstComesAfter order a now_rest
+
+-- What is near a record of the first input.
+
+-- the active ones, and the first of those that come next
+abbrev pub records_near : Near → List Feature
+records_near near = near.active.now ++ take near.ahead near.rest.now.items
+
+-- there are so many that come next
+abbrev pub AreWithin : Near → Type 0
+AreWithin near = near.ahead ≤ length near.rest.now.items
 
 -- what hits each of these is the same among all and among those that are at hand
 abbrev pub Sees : HitRule → List Feature → List Feature → List Feature → Type 0

@@ -1,6 +1,6 @@
 -- Lemmas on hits that are listed.
 use Rattle.bt_lines.proofs.Std.{◌≡◌, List, ℕ, true, Option, None, Some, Result, Ok, Err, ap, refl, subst, sym, ◌∙◌, arith, option_map, Vec}
-use Rattle.std.specs.Prelude.{IfOk}
+use Rattle.std.specs.Prelude.{IfErr, IfOk}
 use Rattle.std.specs.declared.alloc.Global.{Global}
 use Rattle.bt_lines.specs.declared.fault.Input.TheVariants.{Genome as OfGenome}
 use Rattle.bt_lines.specs.model.Lines.{whole_text}
@@ -15,12 +15,17 @@ use Rattle.bt_files.specs.declared.files.Files.{Ghosts as Files}
 use Rattle.bt_tool.specs.calls.Plan.{plan_seen}
 use Rattle.drop_in.specs.calls.Answer.{Answers, ListsTaken, Looks}
 use Rattle.drop_in.specs.calls.Answer.LeavesCall.{once_taken}
-use Rattle.drop_in.specs.calls.Hits.{IsOrderOf}
+use Rattle.drop_in.specs.calls.Hits.{AreKept, IsOrderOf, IsWhyOfHits, IsWhyOfKept}
+use Rattle.drop_in.specs.calls.Hits.IsWhyOfHits.{changed, no_memory}
+use Rattle.drop_in.specs.calls.Hits.IsWhyOfKept.{has_changed, ran_out}
 use Rattle.drop_in.specs.calls.Whys.{orders_hits}
 use Rattle.drop_in.specs.declared.answering.Answered.{Answered}
 use Rattle.drop_in.specs.declared.answering.Answered.TheVariants.{Left as IsLeft, Listed as Lists, Took}
 use Rattle.drop_in.specs.declared.answering.Inputs.{Inputs}
+use Rattle.drop_in.specs.declared.hits.KeptTexts.{KeptTexts}
+use Rattle.drop_in.specs.declared.looks.Left.{Left}
 use Rattle.drop_in.specs.declared.opening.Ways.{Ways}
+use Rattle.drop_in.specs.declared.why.Why.{Why}
 use Rattle.drop_in.specs.declared.words.Request.{Request}
 
 -- what follows from what holds of an Ok
@@ -46,11 +51,21 @@ order_given genome text read found is same handed = record {
   is = refl;
 }
 
+module _ {I : Type 0} (source : Source I) (inputs : Inputs I) (room : ℕ) (texts : KeptTexts I) (kept : AreKept source inputs.first inputs.second texts) where
+  why_kept : (why : Why) → IsWhyOfKept why → IsWhyOfHits source inputs room why
+  why_kept _ ran_out = no_memory refl
+  why_kept _ has_changed = changed texts kept refl
+
+  -- texts that are kept leave the call
+  pub why_of_kept : {T : Type 0} (listed : Result T (Left I)) → IfErr listed (λ left. IsWhyOfKept left.why) → IfErr listed (λ left. IsWhyOfHits source inputs room left.why)
+  why_of_kept (Ok done) is = is
+  why_of_kept (Err left) is = why_kept left.why is
+
 module _ {F I O : Type 0} (files : Files F I O) (source : Source I) (sink : Sink O) where
   -- what becomes of a call whose hits have to be put in order, once its inputs were looked at
   pub answers_listed : (before between after : F) (request : Request) (ways : Ways) (room : ℕ) (inputs : Inputs I) (answered : Answered I O)
       → Looks files source before request ways inputs between → orders_hits request ≡ true
-      → ListsTaken files source sink between (plan_seen request.plan) inputs answered after → Answers files source sink before request ways room answered after
+      → ListsTaken files source sink between (plan_seen request.plan) inputs room answered after → Answers files source sink before request ways room answered after
   answers_listed before between after request ways room inputs (Took finished) looked hits lists = absurd lists
   answers_listed before between after request ways room inputs (Lists listed) looked hits lists = record { inputs = inputs; between = between; looked = looked; hits = hits; lists = lists }
   answers_listed before between after request ways room inputs (IsLeft left) looked hits lists =

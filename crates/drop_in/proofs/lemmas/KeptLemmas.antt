@@ -17,7 +17,9 @@ use Rattle.bt_lines.proofs.lemmas.Device.{tells_text}
 use Rattle.drop_in.specs.calls.Inputs.{IsFrontRead, kept_left, kept_texts_are_told}
 use Rattle.drop_in.specs.declared.front_files.FrontInput.{FrontInput}
 use Rattle.drop_in.specs.declared.front_files.FrontInput.TheVariants.{Kept, Opened}
-use Rattle.drop_in.specs.calls.Looks.{SurveysStream}
+use Rattle.drop_in.specs.calls.Looks.{IsUnfinished, StopsAfter, SurveysStream, Unfinishes}
+use Rattle.drop_in.specs.declared.genome_file.Unfinished.{Unfinished}
+use Rattle.drop_in.specs.declared.genome_file.Unfinished.TheVariants.{Failed, Long, NoMemory}
 use Rattle.drop_in.specs.declared.looks.ReadStream.{ReadStream}
 
 -- a text in memory of which nothing was read has all of it
@@ -70,6 +72,21 @@ module _ {S : Type 0} (IsRead : S → Option (List ℕ) → S → Type 0) where
           → ReadsOn IsRead (source_of first) bytes (source_of last) ⊎ FailsAfter IsRead (source_of first) bytes (source_of last)
       by_cause served (inl same) = inl (subst (λ (s : S). ReadsOn IsRead (source_of first) bytes s) (sym same) served)
       by_cause served (inr failed) = inr (record { before = source_of fails.before; served = served; fails = failed })
+
+module _ {S : Type 0} (device : Source S) where
+  -- a read of it failed
+  kept_stops : (first : S) (before after : Keeping S) → ReadsOn device.is_read first (kept_of before) (source_of before) → IsKeptRead device.is_read before None after
+      → StopsAfter device first (kept_of after) (source_of after)
+  kept_stops first before after reads (same, inl unread) =
+      inl (subst (λ (s : S). ReadsOn device.is_read first (kept_of after) s) (sym unread) (subst (λ (kept : List ℕ). ReadsOn device.is_read first kept (source_of before)) (sym same) reads))
+  kept_stops first before after reads (same, inr failed) =
+      inr (record { before = source_of before; served = subst (λ (kept : List ℕ). ReadsOn device.is_read first kept (source_of before)) (sym same) reads; fails = failed })
+
+  pub kept_unfinished : (first : S) (before after : Keeping S) (room : ℕ) (cause : Unfinished) → ReadsOn device.is_read first (kept_of before) (source_of before) → IsKeptRead device.is_read before None after
+      → Unfinishes device after room cause → IsUnfinished device first room cause
+  kept_unfinished first before after room Failed reads fails is = record { bytes = kept_of after; after = source_of after; stops = kept_stops first before after reads fails; failed = is }
+  kept_unfinished first before after room Long reads fails is = record { bytes = kept_of after; after = source_of after; stops = kept_stops first before after reads fails; is_long = is }
+  kept_unfinished first before after room NoMemory reads fails is = tt
 
 -- a source that keeps, as a source
 abbrev pub kept_source : {S : Type 0} → Source S → Source (Keeping S)

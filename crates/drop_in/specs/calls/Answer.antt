@@ -1,5 +1,5 @@
 -- What becomes of a call: files are those before and after.
-use Rattle.std.specs.Prelude.{ℕ, ◌≡◌, true, false, Option, None, is_some}
+use Rattle.std.specs.Prelude.{ℕ, ◌≡◌, true, false, Option, None}
 use Rattle.bt_lines.specs.declared.device.Sink.{Ghosts as Sink}
 use Rattle.bt_lines.specs.declared.device.Source.{Ghosts as Source}
 use Rattle.bt_lines.specs.declared.fault.Input.TheVariants.{First, Second}
@@ -8,6 +8,7 @@ use Rattle.bt_files.specs.declared.files.Files.{Ghosts as Files}
 use Rattle.bt_tool.specs.calls.Plan.{plan_seen}
 use Rattle.bt_tool.specs.model.Options.{Named, PlanSeen}
 use Rattle.drop_in.specs.calls.Call.{AreRunnable, IsLeftByVerdict, IsTaken, RunsInputs, asked_by, stream_among}
+use Rattle.drop_in.specs.calls.GenomeFiles.{IsWhyOfGenomeIf}
 use Rattle.drop_in.specs.calls.Hits.{IsWhyOfHits, ListsInputs}
 use Rattle.drop_in.specs.calls.Looks.{LeavesIfFile, LeavesInput, LeavesInputIf, LeavesOther, ReadsGenomeIf, SeesFiles, SeesIfFile, SeesInput, SeesInputIf}
 use Rattle.drop_in.specs.calls.Opening.{CannotOpen, OpensAll}
@@ -67,7 +68,7 @@ module _ {F I O : Type 0} (files : Files F I O) (source : Source I) where
   -- Something of it leaves the call: the genome file, another file, the stream, or the verdict on all of them.
   pub data LeavesOpened (before : F) (request : Request) (opened : OpenedFiles I) (room : ℕ) (left : Left I) (after : F)
       : Type 0 where
-    by_genome : left.stream ≡ None → after ≡ before → is_some opened.genome ≡ true
+    by_genome : left.stream ≡ None → after ≡ before → IsWhyOfGenomeIf source opened.genome left.why
         → LeavesOpened before request opened room left after
     by_file : (given : Option GenomeFile) → left.stream ≡ None → after ≡ before → ReadsGenomeIf source opened.genome given
         → LeavesFiles source opened.inputs room left.why → LeavesOpened before request opened room left after
@@ -94,11 +95,11 @@ module _ {F I O : Type 0} (files : Files F I O) (source : Source I) where
         → LeavesCall before request ways room left after
     unopened : left.stream ≡ None → CannotOpen files before (plan_seen request.plan).names ways left.why after
         → LeavesCall before request ways room left after
-    once_opened : (opened : OpenedFiles I) (between : F) → AreRunnable ways
+    once_opened : (opened : OpenedFiles I) (between : F) → AreRunnable streams
         → OpensAll files before (plan_seen request.plan).names ways opened between
         → LeavesOpened between request opened room left after → LeavesCall before request ways room left after
     once_taken : (inputs : Inputs I) → orders_hits request ≡ true → Looks before request ways inputs after
-        → left.stream ≡ stream_among inputs.first inputs.second → IsWhyOfHits left.why
+        → left.stream ≡ stream_among inputs.first inputs.second → IsWhyOfHits source inputs room left.why
         → LeavesCall before request ways room left after
 
 module _ {F I O : Type 0} (files : Files F I O) (source : Source I) (sink : Sink O) where
@@ -120,11 +121,11 @@ module _ {F I O : Type 0} (files : Files F I O) (source : Source I) (sink : Sink
     pub lists : ListsInputs files sink source between (plan_seen request.plan) inputs listed after
 
   -- what becomes of inputs whose hits have to be put in order
-  abbrev pub ListsTaken : F → PlanSeen → Inputs I → Answered I O → F → Type 0
-  ListsTaken before plan inputs (Took finished) after = ⊥
-  ListsTaken before plan inputs (Lists listed) after = ListsInputs files sink source before plan inputs listed after
-  ListsTaken before plan inputs (IsLeft left) after =
-      (after ≡ before) × (left.stream ≡ stream_among inputs.first inputs.second) × IsWhyOfHits left.why
+  abbrev pub ListsTaken : F → PlanSeen → Inputs I → ℕ → Answered I O → F → Type 0
+  ListsTaken before plan inputs room (Took finished) after = ⊥
+  ListsTaken before plan inputs room (Lists listed) after = ListsInputs files sink source before plan inputs listed after
+  ListsTaken before plan inputs room (IsLeft left) after =
+      (after ≡ before) × (left.stream ≡ stream_among inputs.first inputs.second) × IsWhyOfHits source inputs room left.why
 
   -- what becomes of a call, of whose stream as many bytes are kept as there is room for
   abbrev pub Answers : F → Request → Ways → ℕ → Answered I O → F → Type 0

@@ -1,8 +1,10 @@
 -- How the hits of a call are listed in the order of bedtools: both texts are kept in memory for that.
-use Rattle.std.specs.Prelude.{ℕ, ◌≡◌, List, Option, Some, None, Ok, Vec, option_map}
+use Rattle.std.specs.Prelude.{ℕ, ◌≡◌, ◌<◌, ◌+◌, ◌-◌, List, length, Option, Some, None, Ok, Vec, option_map}
 use Rattle.std.specs.declared.alloc.Global.{Global}
 use Rattle.bt_lines.specs.declared.device.Sink.{Ghosts as Sink}
 use Rattle.bt_lines.specs.declared.device.Source.{Ghosts as Source}
+use Rattle.bt_lines.specs.declared.fault.Input.{Input}
+use Rattle.bt_lines.specs.declared.fault.Input.TheVariants.{First, Second}
 use Rattle.bt_lines.specs.model.Fault.{FaultValue}
 use Rattle.bt_lines.specs.model.Lines.{whole_text}
 use Rattle.bt_bed.specs.model.Feature.{Feature}
@@ -18,8 +20,10 @@ use Rattle.bt_tool.specs.declared.planning.plan_type.Command.TheVariants.{Inters
 use Rattle.bt_tool.specs.model.Behaviour.{order_in_use}
 use Rattle.bt_tool.specs.model.Options.{PlanSeen}
 use Rattle.bt_tool.specs.model.Report.{chromosomes_of}
-use Rattle.drop_in.specs.calls.Looks.{ReadsText}
+use Rattle.drop_in.specs.calls.Looks.{IsUnfinished, ReadsText}
 use Rattle.drop_in.specs.declared.answering.Inputs.{Inputs}
+use Rattle.drop_in.specs.declared.genome_file.Unfinished.{Unfinished}
+use Rattle.drop_in.specs.declared.genome_file.Unfinished.TheVariants.{Failed, Long, NoMemory as NoMemoryLeft}
 use Rattle.drop_in.specs.declared.hits.Kept.{Kept}
 use Rattle.drop_in.specs.declared.hits.Kept.TheVariants.{File as KeptFile, Stream as KeptStream}
 use Rattle.drop_in.specs.declared.hits.KeptTexts.{KeptTexts}
@@ -28,7 +32,7 @@ use Rattle.drop_in.specs.declared.looks.ReadStream.{ReadStream}
 use Rattle.drop_in.specs.declared.looks.Reading.{Reading}
 use Rattle.drop_in.specs.declared.looks.Reading.TheVariants.{File, Stream, Text}
 use Rattle.drop_in.specs.declared.why.Why.{Why}
-use Rattle.drop_in.specs.declared.why.Why.TheVariants.{Changed, HitsRoom, NoMemory}
+use Rattle.drop_in.specs.declared.why.Why.TheVariants.{Changed, HitsRoom, NoMemory, Unopened}
 
 -- Texts in memory.
 
@@ -82,11 +86,51 @@ pub record IsOrderOf (genome : Option (Vec ℕ Global)) (order : Order) : Type 0
 abbrev pub IsListing : Command → Listing → Type 0
 IsListing command listing = (held : Option ℕ) × (command ≡ Intersect listing.shape listing.rule held)
 
--- why it is left: there is no room or no memory, or a file changed while it was read
-pub data IsWhyOfHits : Why → Type 0 where
-  no_room : IsWhyOfHits HitsRoom
-  no_memory : IsWhyOfHits NoMemory
-  changed : IsWhyOfHits Changed
+-- Why it is left.
+
+-- of a file that isn't kept
+abbrev pub unkept_why : Input → Unfinished → Why
+unkept_why input Failed = Unopened input
+unkept_why input Long = HitsRoom
+unkept_why input NoMemoryLeft = NoMemory
+
+-- how many bytes of an input are in memory since it was surveyed: the text of a gzip file
+abbrev pub text_len : {I : Type 0} → Reading I → ℕ
+text_len (File again) = 0
+text_len (Stream stream) = 0
+text_len (Text text) = length text.items
+
+module _ {I : Type 0} (source : Source I) where
+  -- it couldn't be read to its end, or is longer than the room
+  abbrev pub IsUnkept : Reading I → Input → ℕ → Why → Type 0
+  IsUnkept (File again) input room why = (cause : Unfinished) × IsUnfinished source again room cause × (why ≡ unkept_why input cause)
+  IsUnkept (Stream stream) input room why = ⊥
+  IsUnkept (Text text) input room why = ⊥
+
+  -- how much room is left for files beside the texts of gzip files
+  abbrev pub room_left : Reading I → Reading I → ℕ → ℕ
+  room_left first other room = room - text_len first - text_len other
+
+  -- the first that isn't kept leaves the call; or there is no room for the texts of its gzip files; or it has no second input
+  pub data AreUnkept (first : Reading I) (second : Option (Reading I)) (room : ℕ) (why : Why) : Type 0 where
+    no_second : second ≡ None → why ≡ HitsRoom → AreUnkept first second room why
+    too_long : (other : Reading I) → second ≡ Some other → room < text_len first + text_len other → why ≡ HitsRoom
+        → AreUnkept first second room why
+    of_first : (other : Reading I) → second ≡ Some other → IsUnkept first First (room_left first other room) why
+        → AreUnkept first second room why
+    of_second : (kept : Kept I) (other : Reading I) → IsKept source first kept → second ≡ Some other
+        → IsUnkept other Second (room_left first other room) why → AreUnkept first second room why
+
+  -- a text isn't kept, there is no memory, or a file that was kept changed since it was surveyed
+  pub data IsWhyOfHits (inputs : Inputs I) (room : ℕ) (why : Why) : Type 0 where
+    unkept : AreUnkept inputs.first inputs.second room why → IsWhyOfHits inputs room why
+    no_memory : why ≡ NoMemory → IsWhyOfHits inputs room why
+    changed : (texts : KeptTexts I) → AreKept source inputs.first inputs.second texts → why ≡ Changed → IsWhyOfHits inputs room why
+
+-- of texts that are kept
+pub data IsWhyOfKept : Why → Type 0 where
+  ran_out : IsWhyOfKept NoMemory
+  has_changed : IsWhyOfKept Changed
 
 module _ {F I O : Type 0} (files : Files F I O) (sink : Sink O) where
   -- Both texts are without a fault in this order, and standard output was made. It took the hits of each record, in the order

@@ -1,5 +1,5 @@
 -- What looking at the inputs of a call does: files are those before and after.
-use Rattle.std.specs.Prelude.{ℕ, ◌≡◌, ◌⊎◌, ⊤, false, true, List, [], ◌∷◌, ◌++◌, Option, Some, None, Result, Ok, Err, Vec, length, nat_lt}
+use Rattle.std.specs.Prelude.{ℕ, ◌≡◌, ◌<◌, ◌⊎◌, ⊤, false, true, List, [], ◌∷◌, ◌++◌, Option, Some, None, Result, Ok, Err, Vec, length, nat_lt}
 use Rattle.std.specs.declared.alloc.Global.{Global}
 use Rattle.bt_lines.specs.calls.Device.{EndsAfter, FailsAfter, ReadsOn}
 use Rattle.bt_lines.specs.declared.device.Source.{Ghosts as Source}
@@ -9,7 +9,9 @@ use Rattle.bt_lines.specs.model.Lines.{whole_text}
 use Rattle.bt_bed.specs.calls.GenomeTable.{entries}
 use Rattle.bt_bed.specs.model.Genome.{genome_handed}
 use Rattle.bt_files.specs.declared.files.Files.{Ghosts as Files}
+use Rattle.bt_front.specs.calls.Stream.{kept_of, source_of}
 use Rattle.bt_front.specs.calls.Survey.{IsTroubleOf, LeavesText, Surveys}
+use Rattle.bt_front.specs.declared.stream.keeping.Keeping.{Keeping}
 use Rattle.bt_front.specs.declared.survey.Survey.{Survey}
 use Rattle.bt_front.specs.declared.survey.trouble.Trouble.{Trouble}
 use Rattle.bt_front.specs.model.Survey.{IsSurveyOf}
@@ -18,6 +20,8 @@ use Rattle.drop_in.specs.calls.Gzip.{is_one_part}
 use Rattle.drop_in.specs.calls.Opening.{IsRefused}
 use Rattle.drop_in.specs.calls.Whys.{file_why, stream_why, unread_why, unzipped_why}
 use Rattle.drop_in.specs.declared.genome_file.GenomeFile.{GenomeFile}
+use Rattle.drop_in.specs.declared.genome_file.Unfinished.{Unfinished}
+use Rattle.drop_in.specs.declared.genome_file.Unfinished.TheVariants.{Failed, Long, NoMemory}
 use Rattle.drop_in.specs.declared.looks.Left.{Left}
 use Rattle.drop_in.specs.declared.looks.ReadStream.{ReadStream}
 use Rattle.drop_in.specs.declared.looks.Reading.TheVariants.{File, Stream, Text}
@@ -37,14 +41,36 @@ pub record ReadsText {S : Type 0} (source : Source S) (before : S) (text : List 
   pub after : S
   pub served : EndsAfter source.is_read before text after
 
--- A source wasn't read to its end, which leaves the call: a read failed, or more came than there is room for, or there was no
--- memory.
-pub data IsWhyUnread {S : Type 0} (source : Source S) (before : S) (input : Input) (room : ℕ) (why : Why) : Type 0 where
-  stopped : (bytes : List ℕ) (after : S)
-      → ReadsOn source.is_read before bytes after ⊎ FailsAfter source.is_read before bytes after
-      → why ≡ unread_why input (nat_lt room (length bytes)) (source.has_failed after)
-      → IsWhyUnread source before input room why
-  no_memory : why ≡ NoMemory → IsWhyUnread source before input room why
+module _ {S : Type 0} (source : Source S) where
+  -- these bytes were handed over, and then a read may have failed
+  abbrev pub StopsAfter : S → List ℕ → S → Type 0
+  StopsAfter before bytes after = ReadsOn source.is_read before bytes after ⊎ FailsAfter source.is_read before bytes after
+
+  -- it says that a read failed
+  pub record IsCutOff (before : S) : Type 0 where
+    pub bytes : List ℕ
+    pub after : S
+    pub stops : StopsAfter before bytes after
+    pub failed : source.has_failed after ≡ true
+
+  -- it handed over more bytes than there is room for
+  pub record IsLong (before : S) (room : ℕ) : Type 0 where
+    pub bytes : List ℕ
+    pub after : S
+    pub stops : StopsAfter before bytes after
+    pub is_long : room < length bytes
+
+  -- why it isn't read to its end
+  abbrev pub IsUnfinished : S → ℕ → Unfinished → Type 0
+  IsUnfinished before room Failed = IsCutOff before
+  IsUnfinished before room Long = IsLong before room
+  IsUnfinished before room NoMemory = ⊤
+
+  -- the same of what is kept of it
+  abbrev pub Unfinishes : Keeping S → ℕ → Unfinished → Type 0
+  Unfinishes keeping room Failed = source.has_failed (source_of keeping) ≡ true
+  Unfinishes keeping room Long = room < length (kept_of keeping)
+  Unfinishes keeping room NoMemory = ⊤
 
 -- A stream was surveyed, and all that it gave is kept, in order.
 abbrev pub SurveysStream : {I : Type 0} → Source I → I → ReadStream I → Result Survey Trouble → Type 0
@@ -89,10 +115,12 @@ module _ {I : Type 0} (source : Source I) where
 
   -- or it wasn't: one of both isn't read to its end; or the text has no NUL at its end; or the file has several parts
   pub data IsWhyUnzipped (gzip : OpenedGzip I) (input : Input) (room : ℕ) (why : Why) : Type 0 where
-    text_unread : IsWhyUnread source gzip.text input room why → IsWhyUnzipped gzip input room why
+    text_unread : (cause : Unfinished) → IsUnfinished source gzip.text room cause → why ≡ unread_why input cause
+        → IsWhyUnzipped gzip input room why
     no_end : (bytes : List ℕ) → ReadsText source gzip.text bytes → ((text : List ℕ) → ¬ (bytes ≡ text ++ 0 ∷ []))
         → why ≡ Unzip input → IsWhyUnzipped gzip input room why
-    zipped_unread : IsWhyUnread source gzip.zipped input room why → IsWhyUnzipped gzip input room why
+    zipped_unread : (cause : Unfinished) → IsUnfinished source gzip.zipped room cause → why ≡ unread_why input cause
+        → IsWhyUnzipped gzip input room why
     parts : (text zipped : List ℕ) → ReadsText source gzip.text (text ++ 0 ∷ []) → ReadsText source gzip.zipped zipped
         → is_one_part zipped (length text) ≡ false → why ≡ Parts input → IsWhyUnzipped gzip input room why
 

@@ -46,8 +46,7 @@ module _ {F I O : Type 0} (files : Files F I O) where
   OpensInputIf way before (Some name) (Some input) after = OpensInput way before name input after
   OpensInputIf way before name input after = ⊥
 
-  -- All files of a call were opened: the genome file once, and each input as it comes. None of them was read before the last
-  -- was opened.
+  -- All files of a call were opened, in this order: the genome file once, and each input as it comes.
   pub record OpensAll (before : F) (names : Named) (ways : Ways) (opened : OpenedFiles I) (after : F) : Type 0 where
     pub with_genome : F
     pub with_first : F

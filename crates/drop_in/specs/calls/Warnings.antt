@@ -12,7 +12,7 @@ use Rattle.bt_front.specs.declared.survey.oddity.Oddity.TheVariants.{Blank, Doub
 use Rattle.bt_front.specs.declared.survey.trouble.Trouble.{Trouble}
 use Rattle.bt_front.specs.declared.survey.trouble.Trouble.TheVariants.{ComesBack, Odd, Refused}
 use Rattle.bt_tool.specs.declared.planning.plan_type.Command.{Command}
-use Rattle.bt_tool.specs.declared.planning.plan_type.Command.TheVariants.{Complement, Intersect, Merge, Subtract}
+use Rattle.bt_tool.specs.declared.planning.plan_type.Command.TheVariants.{Complement, Coverage, Intersect, Merge, Subtract}
 use Rattle.drop_in.specs.declared.warning.Case.{Case}
 use Rattle.drop_in.specs.declared.warning.Silent.{Silent}
 use Rattle.drop_in.specs.declared.warning.Silent.TheVariants.{CutsColumn, CutsLine, DropsReturns, EndsInput, EndsRun, LosesHits, SkipsRecord}
@@ -44,6 +44,11 @@ has_one_reader (Intersect shape rule held) = true
 has_one_reader (Subtract whole rule held) = true
 has_one_reader command = false
 
+-- bedtools may pass over a record whose name begins as a header line does
+abbrev pub passes_headers : Command → Bool
+passes_headers (Coverage zeros strand) = true
+passes_headers command = has_one_reader command
+
 abbrev pub is_merge : Command → Bool
 is_merge (Merge d strand) = true
 is_merge command = false
@@ -66,7 +71,7 @@ silent_on call input Blank = blank_does call.command call.is_sorted
 silent_on call input DoubleReturn = silent_if (writes_lines call.command input) DropsReturns
 silent_on call input Nul = silent_if (has_one_reader call.command) CutsColumn
 silent_on call input Long = silent_if (is_merge call.command || writes_lines call.command input) CutsLine
-silent_on call input HeaderName = silent_if (has_one_reader call.command) SkipsRecord
+silent_on call input HeaderName = silent_if (passes_headers call.command) SkipsRecord
 silent_on call input oddity = None
 
 -- with a record out of order: of the second input it isn't noticed if it comes once the first has ended

@@ -1,5 +1,5 @@
 -- Why a call is left.
-use Rattle.std.specs.Prelude.{◌≡◌, ℕ, Bool, true, false, ◌&&◌, ◌||◌, List, Option, Ok, Err, not, if◌then◌else◌}
+use Rattle.std.specs.Prelude.{◌≡◌, ℕ, Bool, true, false, ◌&&◌, List, Option, Ok, Err, not, if◌then◌else◌}
 use Rattle.bt_lines.specs.declared.fault.Input.{Input}
 use Rattle.bt_lines.specs.declared.fault.Kind.{Kind}
 use Rattle.bt_lines.specs.declared.fault.Kind.TheVariants.{ReadFailed}
@@ -16,6 +16,8 @@ use Rattle.bt_front.specs.declared.words.Asked.{Asked}
 use Rattle.bt_front.specs.model.Verdict.{have_common_order, lists_hits, verdict_of}
 use Rattle.drop_in.specs.calls.Gzip.{is_bam}
 use Rattle.drop_in.specs.calls.Opening.{is_stream}
+use Rattle.drop_in.specs.declared.genome_file.Unfinished.{Unfinished}
+use Rattle.drop_in.specs.declared.genome_file.Unfinished.TheVariants.{Failed, Long, NoMemory as NoMemoryLeft}
 use Rattle.drop_in.specs.declared.opening.Ways.{Ways}
 use Rattle.drop_in.specs.declared.why.Why.{Why}
 use Rattle.drop_in.specs.declared.why.Why.TheVariants.{Bam, GenomeStream, LongStream, NoMemory, Text, TwoStreams, Unzip, Verdict, Zipped}
@@ -75,6 +77,8 @@ stream_why input trouble is_long has_failed = Text input trouble
 abbrev pub unzipped_why : Input → Trouble → List ℕ → Why
 unzipped_why input trouble text = if is_bam text then Bam input else text_why input trouble false
 
--- of a text that wasn't read to its end: by whether more came of it than there is room for, and by whether a read failed
-abbrev pub unread_why : Input → Bool → Bool → Why
-unread_why input is_long has_failed = if is_long || has_failed then Unzip input else NoMemory
+-- of one that isn't read to its end
+abbrev pub unread_why : Input → Unfinished → Why
+unread_why input Failed = Unzip input
+unread_why input Long = Unzip input
+unread_why input NoMemoryLeft = NoMemory

@@ -11,5 +11,6 @@ returns g c =
     let new = c.finished-fault.new.out.output in
     let lines = intersect_by_bins c.args.listing.shape c.args.listing.rule c.args.records.first.items c.args.records.second.items in
     let answer = option_map fault_value c.finished-fault.result in
-    sink_written g.K.Sink c.args.sink c.into_sink.result old new lines (ap (λ (o : OutputOver g.row.K.Denot). o.output.put) c.new-out.ensures) c.into_sink.ensures.took c.into_sink.ensures.flushed answer
-    (hits_written old c.put_hits_by_bins-put.new.out.output new lines c.put_hits_by_bins-put.result answer c.put_hits_by_bins-put.ensures c.finished-fault.ensures)
+    sink_written g.K.Sink c.args.sink c.into_sink.result old new lines (ap (λ (o : OutputOver g.row.K.Denot). o.output.put) c.new-out.ensures) (ap (λ (o : OutputOver g.row.K.Denot). o.output.sink_has_failed) c.new-out.ensures)
+    c.into_sink.ensures.took c.into_sink.ensures.failed c.into_sink.ensures.last c.into_sink.ensures.flushed answer
+    (hits_written old lines c.put_hits_by_bins-put.new.out.output new c.put_hits_by_bins-put.result answer c.put_hits_by_bins-put.ensures c.finished-fault.ensures)

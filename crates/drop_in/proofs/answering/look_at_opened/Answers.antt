@@ -5,7 +5,7 @@ use Rattle.drop_in.specs.calls.Call.{IsLeftByVerdict, IsTaken}
 use Rattle.drop_in.proofs.answering.look_at_opened.Goals as goal
 
 pub returns-in-Err-clause-leaves : goal.returns-in-Err-clause-leaves
-returns-in-Err-clause-leaves g c = by_genome refl refl c.in-Err.ensures.some
+returns-in-Err-clause-leaves g c = by_genome refl refl c.in-Err.ensures.why
 
 pub returns-in-Err-look_at_files-clause-leaves : goal.returns-in-Err-look_at_files-clause-leaves
 returns-in-Err-look_at_files-clause-leaves g c =
