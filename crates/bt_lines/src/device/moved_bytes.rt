@@ -6,7 +6,7 @@ ghost use Rattle.std.specs.Borrow.{ftrue};
 use std::marker::Model;
 
 #[derive(Drop, Debug)]
-pub(crate) struct MovedBytes {
+pub struct MovedBytes {
     ghost bytes: { List ℕ },
 }
 
@@ -16,13 +16,13 @@ impl Model for MovedBytes {
 
 /// What one call moved.
 #[derive(Clone, Copy, Drop)]
-pub(crate) struct Piece<'a> {
-    pub(crate) bytes: &'a [u8],
+pub struct Piece<'a> {
+    pub bytes: &'a [u8],
 }
 
 impl MovedBytes {
     /// None.
-    pub(crate) fn new() -> MovedBytes
+    pub fn new() -> MovedBytes
         ensures { result.bytes ≡ [] }
     {
         MovedBytes {}
@@ -30,7 +30,7 @@ impl MovedBytes {
 
     /// Those before, and a piece more.
     #[inline(always)]
-    pub(crate) fn with(&self, piece: &Piece<'_>) -> MovedBytes
+    pub fn with(&self, piece: &Piece<'_>) -> MovedBytes
         ensures { result.bytes ≡ self.now.bytes ++ piece.now.bytes.now }
     {
         MovedBytes {}
