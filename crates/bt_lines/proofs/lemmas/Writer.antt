@@ -1,5 +1,5 @@
 -- Lemmas on writing.
-use Rattle.bt_lines.proofs.Std.{rules, ◌≡◌, ℕ, ◌+◌, ◌-◌, ◌*◌, ◌/◌, ◌≤◌, List, [], ◌∷◌, ◌++◌, set, slice_index, length, take, drop, refl, sym, ap, ◌∙◌, append_assoc, arith, length-append, length-take-le, take-add, take-take, take_all, length-chunk, length-put_chunk, take_more_put_chunk, take-put_mid, chunk, put_chunk, take-append-drop, Bool, Result, Ok, Err, true, false, append-nil, OnOk, OnErr, IfErr, IsErr, flat_map, flat_map-append, ◌^◌, ◌<◌, decimal, length-decimal-le, drop-set, drop_at, length-drop, take-append-le, take_at}
+use Rattle.bt_lines.proofs.Std.{rules, ◌≡◌, ℕ, ◌+◌, ◌-◌, ◌*◌, ◌/◌, ◌≤◌, List, [], ◌∷◌, ◌++◌, set, slice_index, length, take, drop, refl, sym, ap, ◌∙◌, append_assoc, arith, length-append, length-take-le, take-add, take-take, take_all, length-chunk, length-put_chunk, take_more_put_chunk, take-put_mid, chunk, put_chunk, take-append-drop, Bool, Result, Ok, Err, true, false, false≢true, append-nil, OnOk, OnErr, IfErr, IsErr, flat_map, flat_map-append, ◌^◌, ◌<◌, decimal, length-decimal-le, drop-set, drop_at, length-drop, take-append-le, take_at}
 use borrow.Rule.Slice.PartMut.{put_mid}
 use Rattle.bt_lines.specs.calls.Output.{IsPrefixOf, Grows, HoldsBlock, block_size, Output, WorksAsBefore, PutsAll, FailsToPut, Puts, Grown, FailsToAdd, Adds, span_text, SinkFailed}
 use Rattle.bt_lines.specs.model.Fault.{FaultValue}
@@ -53,6 +53,7 @@ few_copied (x ∷ y ∷ z ∷ w ∷ to) piece same some few = absurd (omega arit
 
 -- a part of the piece was taken, and then nothing
 pub front_part : (old mid new taken rest piece : List ℕ) → piece ≡ taken ++ rest → mid ≡ old ++ taken → new ≡ mid → IsPrefixOf new old piece
+unfolding IsPrefixOf
 front_part old mid new taken rest piece e p q = (rest, ap (λ l. l ++ rest) (q ∙ p) ∙ append_assoc old taken rest ∙ ap (λ l. old ++ l) (sym e))
 
 -- one more part was taken
@@ -62,10 +63,21 @@ more_taken old mid new taken rest piece n e p q = grind (arith, take-append-drop
 
 -- what was taken is a prefix of itself and of what is held back
 pub front_held : (took held more : List ℕ) → IsPrefixOf took (took ++ held) more
+unfolding IsPrefixOf
 front_held took held more = (held ++ more, sym (append_assoc took held more))
+
+-- what was held back was sent in part, or all of it was taken
+pub front_sent : (new old held : List ℕ) → IsPrefixOf new old held → IsPrefixOf new (old ++ held) []
+unfolding IsPrefixOf
+front_sent new old held f = (f.0, f.1 ∙ sym (append-nil (old ++ held)))
+
+pub front_taken : (new mid old held : List ℕ) → mid ≡ old ++ held → new ≡ mid → IsPrefixOf new (old ++ held) []
+unfolding IsPrefixOf
+front_taken new mid old held p q = ([], ap (λ l. l ++ []) (q ∙ p))
 
 -- a prefix of what is held back and of the first bytes of a piece
 pub front_filled : (old new held piece : List ℕ) (n : ℕ) → IsPrefixOf new old (held ++ take n piece) → IsPrefixOf new (old ++ held) piece
+unfolding IsPrefixOf
 front_filled old new held piece n h = (
   h.0 ++ drop n piece,
   sym (append_assoc new h.0 (drop n piece)) ∙ ap (λ l. l ++ drop n piece) h.1 ∙ append_assoc old (held ++ take n piece) (drop n piece)
@@ -81,7 +93,8 @@ module _ (held piece : List ℕ) (n k : ℕ) where
   put_over old mid new p q = grind (arith, append_assoc, take-append-drop)
 
   pub front_over : (old mid new next : List ℕ) → next ≡ rest → mid ≡ old ++ (held ++ take n piece) → IsPrefixOf new mid (take k next) → IsPrefixOf new (old ++ held) piece
-  front_over old mid new next same p f = grind (arith, (append_assoc new f.0 (drop k rest)), append_assoc, take-append-drop)
+  unfolding IsPrefixOf
+  front_over old mid new next same p f = (f.0 ++ drop k rest, grind (arith, (append_assoc new f.0 (drop k rest)), append_assoc, take-append-drop))
 
 -- what was taken grows, and grows again
 pub grows_both : (old mid new : List ℕ) → Grows old mid → Grows mid new → Grows old new
@@ -95,7 +108,13 @@ holds_held took held short = (held, refl, short)
 
 -- a prefix of the first bytes is a prefix of them and more
 pub front_longer : (new old xs ys : List ℕ) → IsPrefixOf new old xs → IsPrefixOf new old (xs ++ ys)
+unfolding IsPrefixOf
 front_longer new old xs ys f = (f.0 ++ ys, sym (append_assoc new f.0 ys) ∙ ap (λ l. l ++ ys) f.1 ∙ append_assoc old xs ys)
+
+-- a prefix of what was put, with more bytes
+front_behind : (new old mid xs ys : List ℕ) → mid ≡ old ++ xs → IsPrefixOf new mid ys → IsPrefixOf new old (xs ++ ys)
+unfolding IsPrefixOf
+front_behind new old mid xs ys p f = (f.0, f.1 ∙ ap (λ l. l ++ ys) p ∙ append_assoc old xs ys)
 
 pub grows_nothing : (a : List ℕ) → Grows a a
 grows_nothing a = ([], sym (append-nil a))
@@ -105,7 +124,14 @@ module _ (old mid new : Output) (xs ys : List ℕ) where
   put_more p q = grind (arith, append_assoc, (grows_both old.took mid.took new.took p.grows q.grows))
 
   pub fails_behind : (fault : FaultValue) → PutsAll old xs mid → FailsToPut mid ys fault new → FailsToPut old (xs ++ ys) fault new
-  fails_behind fault p q = grind (arith, append_assoc, (grows_both old.took mid.took new.took p.grows q.grows))
+  fails_behind fault p q = record {
+    is = q.is;
+    front = front_behind new.took old.put mid.put xs ys p.appends q.front;
+    grows = grows_both old.took mid.took new.took p.grows q.grows;
+    failed = q.failed;
+    sink_failed = q.sink_failed;
+    again = λ was. absurd (false≢true (sym p.was_served ∙ was));
+  }
 
 pub fails_before : (old new : Output) (xs ys : List ℕ) (fault : FaultValue) → FailsToPut old xs fault new → FailsToPut old (xs ++ ys) fault new
 fails_before old new xs ys fault p = grind (arith, front_longer)
@@ -161,7 +187,17 @@ module _ (old mid new : Output) (xs ys : List ℕ) where
   grown_more p q = grind (arith, append_assoc, (grows_both old.took mid.took new.took p.grows q.grows), nothing_before)
 
   pub fails_then : (fault : FaultValue) → Grown old xs mid → FailsToAdd mid ys fault new → FailsToAdd old (xs ++ ys) fault new
-  fails_then fault p q = grind (arith, append_assoc, (grows_both old.took mid.took new.took p.grows q.puts.grows), nothing_behind)
+  fails_then fault p q = record {
+    puts = record {
+      is = q.puts.is;
+      front = front_behind new.took old.put mid.put xs ys p.appends q.puts.front;
+      grows = grows_both old.took mid.took new.took p.grows q.puts.grows;
+      failed = q.puts.failed;
+      sink_failed = q.puts.sink_failed;
+      again = λ was. q.puts.again (ap (λ (o : Output). o.has_failed) (p.again was) ∙ was) ∙ p.again was;
+    };
+    some = λ none. q.some (nothing_behind xs ys none);
+  }
 
 pub adds_more : {A : Type 0} (old mid new : Output) (xs ys : List ℕ) (r : Result A Fault) → Grown old xs mid → Adds mid ys r new → Adds old (xs ++ ys) r new
 adds_more old mid new xs ys (Ok done) p q = grown_more old mid new xs ys p q

@@ -37,7 +37,7 @@ abbrev pub HoldsBlock : List ℕ → List ℕ → Type 0
 HoldsBlock took put = (held : List ℕ) × (put ≡ took ++ held) × (length held ≤ block_size)
 
 -- new is a prefix of old with more bytes after it
-abbrev pub IsPrefixOf : List ℕ → List ℕ → List ℕ → Type 0
+unfoldable pub IsPrefixOf : List ℕ → List ℕ → List ℕ → Type 0
 IsPrefixOf new old more = (rest : List ℕ) × (new ++ rest ≡ old ++ more)
 
 -- the bytes stay as they are, and some may have been appended

@@ -386,7 +386,11 @@ module _ {S : Type 0} (split cigar : Bool) (device : Source S) where
         -- what is settled with these members was put
         goes_with : (past : List (Member Alignment)) (bytes : List ℕ) (later : Output) → PassesMembers device (sam_reader old) past (sam_reader new) → lines_of (member_items past) ≡ lines_of (member_items g.past) ++ bytes → Grown grown bytes later
             → Going old out new later
-        goes_with past bytes later passes more writes = grind (arith, (put_more out grown later (lines_of (member_items g.past)) bytes g.fed.put writes))
+        goes_with past bytes later passes more writes = record {
+          past = past;
+          fed = record { passes = passes; put = rw more (put_more out grown later (lines_of (member_items g.past)) bytes g.fed.put writes) };
+          sound = sound g.sound;
+        }
 
         goes_by : (said : Option Alignment) (later : Output) → alignment_of line.text ≡ Ok said → Grown grown (option_map_or (bed_lines split cigar) said []) later → Going old out new later
         goes_by None later says writes =

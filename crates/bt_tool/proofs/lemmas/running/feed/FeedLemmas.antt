@@ -34,6 +34,7 @@ use Rattle.bt_tool.proofs.lemmas.running.members.PassedLemmas.{said_in_order}
 
 -- a sink that took a prefix of the lines took a prefix of all
 pub front_all : (took put before done lines whole : List ℕ) → whole ≡ done ++ lines → put ≡ before ++ done → IsPrefixOf took put lines → IsPrefixOf took before whole
+unfolding IsPrefixOf
 front_all took put before done lines whole e p f = (f.0, f.1 ∙ ap (λ l. l ++ lines) p ∙ append_assoc before done lines ∙ ap (λ l. before ++ l) (sym e))
 
 pub works_both : (old mid new : Output) → WorksAsBefore old mid → WorksAsBefore mid new → WorksAsBefore old new

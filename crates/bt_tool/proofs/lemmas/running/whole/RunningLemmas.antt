@@ -52,6 +52,7 @@ lies o place e is = ap lies_in_genome e ∙ ap is_of_genome is
 -- what a sink took is a prefix of the output, if it's a prefix of what was put
 cut_front : (before took front rest output : List ℕ) → Grows before took → output ≡ front ++ rest → IsPrefixOf took before front
     → (front : List ℕ) × (rest : List ℕ) × (took ≡ before ++ front) × (output ≡ front ++ rest)
+unfolding IsPrefixOf
 cut_front before took front rest output g o f =
     let same : front ≡ g.0 ++ f.0 = append_cancel_left before front (g.0 ++ f.0) (sym f.1 ∙ ap (λ l. l ++ f.0) g.1 ∙ append_assoc before g.0 f.0) in
     (g.0, f.0 ++ rest, g.1, o ∙ ap (λ l. l ++ rest) same ∙ append_assoc g.0 f.0 rest)
@@ -63,6 +64,7 @@ module _ (out mid new : Output) (fault answer : Option FaultValue) where
       → (fault ≡ Some write_failed → (front : List ℕ) × (rest : List ℕ) × (output ≡ front ++ rest) × IsPrefixOf mid.took out.put front)
       → (FlushesAll mid fault answer new ⊎ FlushFails mid fault answer new) ⊎ StaysFailed mid fault answer new
       → (front : List ℕ) × (rest : List ℕ) × (new.took ≡ out.took ++ front) × (output ≡ front ++ rest)
+  unfolding IsPrefixOf
   front_by same grows more kept cut (inl (inl all)) =
       let k = kept all.was in
       (k.0, k.1, all.taken ∙ k.3 ∙ ap (λ l. l ++ k.0) same, k.2)
