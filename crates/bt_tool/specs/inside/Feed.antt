@@ -1,5 +1,5 @@
 -- Loops over one reader.
-use Rattle.std.specs.Prelude.{◌≡◌, ℕ, suc, ◌+◌, ◌^◌, ◌<◌, ◌≤◌, ◌⊎◌, ⊤, All, true, List, [], ◌∷◌, ◌++◌, drop, length, map, Option, Some, None, IfSome, ◌≢◌, Result, Ok, Err, false}
+use Rattle.std.specs.Prelude.{◌≡◌, ℕ, suc, ◌+◌, ◌^◌, ◌<◌, ◌≤◌, ◌⊎◌, ⊤, All, true, List, [], ◌∷◌, ◌++◌, drop, length, map, Option, Some, None, ◌≢◌, Result, Ok, Err, false}
 use Rattle.bt_lines.specs.declared.device.Source.{Ghosts as Source}
 use Rattle.bt_lines.specs.model.Fault.{FaultValue, read_failed}
 use Rattle.bt_lines.specs.calls.Faults.{no_memory, write_failed}
