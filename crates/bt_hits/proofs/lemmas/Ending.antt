@@ -1,5 +1,5 @@
 -- Lemmas on how writing ends.
-use Rattle.bt_lines.proofs.Std.{◌≡◌, ◌⊎◌, inl, inr, ℕ, true, List, [], ◌++◌, Option, None, Some, Result, Ok, Err, refl, sym, ap, subst, ◌∙◌, append_assoc, append-nil, arith, Appends, Keeps}
+use Rattle.bt_lines.proofs.Std.{◌≡◌, ◌⊎◌, inl, inr, ℕ, true, List, [], ◌++◌, Option, None, Some, Result, Ok, Err, sym, ap, subst, ◌∙◌, append_assoc, append-nil}
 use Rattle.bt_lines.specs.calls.Faults.{no_memory, write_failed}
 use Rattle.bt_lines.specs.calls.Names.{fault_value}
 use Rattle.bt_lines.specs.calls.Output.{FailsToAdd, Grown, IsPrefixOf, Output}
@@ -9,26 +9,19 @@ use Rattle.bt_lines.specs.model.Fault.{FaultValue}
 use Rattle.bt_hits.specs.calls.Listing.{CutsOff, ListsHits, WritesHits}
 use Rattle.bt_hits.specs.inside.Ending.{EndsPutting}
 
-appends_kept : (old mid new : Option (List ℕ)) (lines : List ℕ) → Appends old mid lines → Keeps mid new → Appends old new lines
-appends_kept = grind arith
+appends_kept : (old mid new lines : List ℕ) → mid ≡ old ++ lines → new ≡ mid → new ≡ old ++ lines
+appends_kept old mid new lines appends same = same ∙ appends
 
-kept_prefix : (old new : Option (List ℕ)) → Keeps old new → IsPrefixOf new old []
-kept_prefix old None keeps = tt
-kept_prefix None (Some new) keeps = tt
-kept_prefix (Some old) (Some new) keeps = ([], append-nil new ∙ (grind arith) ∙ sym (append-nil old))
-
-prefix_of : (old mid new : Option (List ℕ)) (put rest lines : List ℕ) → Appends old mid put → put ++ rest ≡ lines → IsPrefixOf new mid [] → IsPrefixOf new old lines
-prefix_of old mid None put rest lines appends are front = tt
-prefix_of None mid (Some new) put rest lines appends are front = tt
-prefix_of (Some old) None (Some new) put rest lines appends are front = absurd appends
-prefix_of (Some old) (Some mid) (Some new) put rest lines appends are front = (
+prefix_of : (old mid new put rest lines : List ℕ) → mid ≡ old ++ put → put ++ rest ≡ lines → IsPrefixOf new mid [] → IsPrefixOf new old lines
+unfolding IsPrefixOf
+prefix_of old mid new put rest lines appends are front = (
   front.0 ++ rest,
-  sym (append_assoc new front.0 rest) ∙ ap (λ l. l ++ rest) (front.1 ∙ append-nil mid) ∙ (grind (arith, append_assoc)),
+  sym (append_assoc new front.0 rest) ∙ ap (λ l. l ++ rest) (front.1 ∙ append-nil mid ∙ appends) ∙ append_assoc old put rest ∙ ap (λ l. old ++ l) are,
 )
 
 -- what was put of the lines
-abbrev pub Writes : Option (List ℕ) → List ℕ → Option FaultValue → Output → Type 0
-Writes took lines None new = Appends took new.took lines × (new.sink_is_flushed ≡ true)
+abbrev pub Writes : List ℕ → List ℕ → Option FaultValue → Output → Type 0
+Writes took lines None new = (new.took ≡ took ++ lines) × (new.sink_is_flushed ≡ true)
 Writes took lines (Some fault) new = ((fault ≡ write_failed) ⊎ (fault ≡ no_memory)) × IsPrefixOf new.took took lines
 
 module _ {A : Type 0} (old mid new : Output) (lines : List ℕ) where
@@ -47,5 +40,5 @@ module _ {A : Type 0} (old mid new : Output) (lines : List ℕ) where
 module _ {K : Type 0} (sink : Sink K) (before after : K) (old new : Output) (lines : List ℕ) (put : old.put ≡ sink.took before) (took : sink.took after ≡ new.took) (flushed : sink.is_flushed after ≡ new.sink_is_flushed) where
   -- as the sink tells it
   pub sink_written : (answer : Option FaultValue) → Writes old.put lines answer new → WritesHits sink before lines answer after
-  sink_written None (appends, is) = (subst (λ (o : Option (List ℕ)). Appends o (sink.took after) lines) put (subst (λ (o : Option (List ℕ)). Appends old.put o lines) (sym took) appends), flushed ∙ is)
-  sink_written (Some fault) (is, front) = (is, subst (λ (o : Option (List ℕ)). IsPrefixOf (sink.took after) o lines) put (subst (λ (o : Option (List ℕ)). IsPrefixOf o old.put lines) (sym took) front))
+  sink_written None (appends, is) = (took ∙ appends ∙ ap (λ l. l ++ lines) put, flushed ∙ is)
+  sink_written (Some fault) (is, front) = (is, subst (λ (l : List ℕ). IsPrefixOf (sink.took after) l lines) put (subst (λ (l : List ℕ). IsPrefixOf l old.put lines) (sym took) front))

@@ -1,6 +1,5 @@
 -- What reading a text and listing hits do.
 use Rattle.std.specs.Prelude.{◌≡◌, ◌⊎◌, ℕ, Bool, true, false, List, ◌++◌, Option, None, Some, Result, Ok, Err}
-use Rattle.std.specs.Io.KnownBytes.{Appends}
 use Rattle.bt_lines.specs.declared.device.Sink.{Ghosts as Sink}
 use Rattle.bt_lines.specs.declared.fault.Input.{Input}
 use Rattle.bt_lines.specs.declared.fault.Fault.{Fault}
@@ -32,7 +31,7 @@ has_line_each _ = false
 -- what writing hits does to a sink: it took them all, or a prefix of them until a write failed or memory ran out
 abbrev pub WritesHits : {K : Type 0} → Sink K → K → List ℕ → Option FaultValue → K → Type 0
 WritesHits sink before lines None after =
-    Appends (sink.took before) (sink.took after) lines × (sink.is_flushed after ≡ true)
+    (sink.took after ≡ sink.took before ++ lines) × (sink.is_flushed after ≡ true)
 WritesHits sink before lines (Some fault) after =
     ((fault ≡ write_failed) ⊎ (fault ≡ no_memory)) × IsPrefixOf (sink.took after) (sink.took before) lines
 

@@ -399,7 +399,9 @@ module _ {S : Type 0} (split cigar : Bool) (device : Source S) where
 
         -- what it says was written
         pub going_line : {converting after : Converting} → converting.split ≡ split → converting.with_cigar ≡ cigar → {later : Output} → ((said : Option Alignment) × (alignment_of line.text ≡ Ok said) × Grown grown (option_map_or (bed_lines converting.split converting.with_cigar) said []) later × (after ≡ converting)) → Going old out new later
-        going_line same same_cigar written = grind (arith, goes_by)
+        going_line {converting} same same_cigar {later} written =
+            let are : bed_lines converting.split converting.with_cigar ≡ bed_lines split cigar = ap (λ s. bed_lines s converting.with_cigar) same ∙ ap (bed_lines split) same_cigar in
+            goes_by written.0 later written.1 (subst (λ (f : Alignment → List ℕ). Grown grown (option_map_or f written.0 []) later) are written.2)
 
 -- a line that was refused is no failed read
 pub refused_no_read : (input : Input) (line : TextLine) (out : Output) (fault : FaultValue) (grown : Output) → LineRefused input line out fault grown → (other : Input) (at : ℕ) → Some fault ≡ Some (read_failed other at) → ⊥
