@@ -57,6 +57,7 @@ pub struct BothRecords {
 }
 
 // Passes on what is held back, and gives the fault that it ends with.
+#[tactic(auto, using(crate::proofs::lemmas::Ending::kept_prefix))]
 fn finished<K: Sink>(put: Result<(), Fault>, out: &mut Out<K>) -> Option<Fault>
     ensures { EndsPutting put out.old.output (option_map fault_value result) out.new.output }
 {

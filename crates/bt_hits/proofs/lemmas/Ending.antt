@@ -12,6 +12,11 @@ use Rattle.bt_hits.specs.inside.Ending.{EndsPutting}
 appends_kept : (old mid new lines : List ℕ) → mid ≡ old ++ lines → new ≡ mid → new ≡ old ++ lines
 appends_kept old mid new lines appends same = same ∙ appends
 
+-- all that was put was taken
+pub kept_prefix : (old new : List ℕ) → new ≡ old → IsPrefixOf new old []
+unfolding IsPrefixOf
+kept_prefix old new same = ([], ap (λ l. l ++ []) same)
+
 prefix_of : (old mid new put rest lines : List ℕ) → mid ≡ old ++ put → put ++ rest ≡ lines → IsPrefixOf new mid [] → IsPrefixOf new old lines
 unfolding IsPrefixOf
 prefix_of old mid new put rest lines appends are front = (

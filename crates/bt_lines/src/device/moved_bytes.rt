@@ -5,6 +5,7 @@ ghost use Rattle.std.specs.Borrow.{ftrue};
 
 use std::marker::Model;
 
+/// The bytes that the calls of a device moved, in order.
 #[derive(Drop, Debug)]
 pub struct MovedBytes {
     ghost bytes: { List ℕ },
@@ -21,14 +22,14 @@ pub struct Piece<'a> {
 }
 
 impl MovedBytes {
-    /// None.
+    /// No bytes.
     pub fn new() -> MovedBytes
         ensures { result.bytes ≡ [] }
     {
         MovedBytes {}
     }
 
-    /// Those before, and a piece more.
+    /// Those before, and a piece after them.
     #[inline(always)]
     pub fn with(&self, piece: &Piece<'_>) -> MovedBytes
         ensures { result.bytes ≡ self.now.bytes ++ piece.now.bytes.now }

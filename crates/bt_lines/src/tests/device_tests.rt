@@ -3,8 +3,8 @@ ghost use Rattle.std.specs.Prelude.{true, ⊤};
 use crate::tests::output_tests::fails_again;
 use crate::tests::{Want, gives_all, gives_some, has_ended, holds};
 use crate::{
-    BLOCK, DeviceFailed, FromRead, Input, LineEnd, LineReader, MovedBytes, Out, Piece, Sink, Source,
-    ToWrite,
+    BLOCK, DeviceFailed, FromRead, Input, LineEnd, LineReader, MovedBytes, Out, Piece, Sink,
+    Source, ToWrite,
 };
 use std::alloc::Global;
 use std::io;

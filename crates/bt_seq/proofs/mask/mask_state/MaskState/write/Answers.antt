@@ -19,6 +19,6 @@ returns-clause-writes g c = λ line e.
     subst (λ (now : Masking). bytes ≡ line_bytes now line) c.self.view_is
     (ap (λ text. text ++ end_bytes m.ending) masked ∙ ap (λ (w : Waiting). masked_from m.how m.window.held m.window.before w.text ++ end_bytes w.ending) waits) in
     rw c.finish_write.ensures.same
-        (wrote_waiting c.put_text-written.result c.args.self.now c.finish_write.new.self line bytes _ _ is c.put_text-written.ensures
-        (λ ok. subst (λ (now : Masking). c.finish_write.new.self ≡ record now { waiting = None; want = Line }) c.self.view_is (c.finish_write.ensures.next ok))
-        c.finish_write.ensures.stops)
+    (wrote_waiting c.put_text-written.result c.args.self.now c.finish_write.new.self line bytes _ _ is c.put_text-written.ensures
+    (λ ok. subst (λ (now : Masking). c.finish_write.new.self ≡ record now { waiting = None; want = Line }) c.self.view_is (c.finish_write.ensures.next ok))
+    c.finish_write.ensures.stops)
