@@ -36,7 +36,6 @@ mod headline;
 mod identity;
 mod logged;
 mod message;
-mod moved_bytes;
 mod opened;
 mod output;
 mod stand_ins;

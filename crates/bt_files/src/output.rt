@@ -1,10 +1,8 @@
 //! Where the program writes to: standard output or a file.
 
-ghost use Rattle.std.specs.Prelude.{◌≡◌, ◌<◌, ◌≤◌, [], Some, IfOk, IsErr, IsTrue, OnErr, OnOk, false, is_err, length, true};
-ghost use Rattle.std.specs.Io.KnownBytes.{Keeps, WriteAppends};
+ghost use Rattle.std.specs.Prelude.{◌≡◌, ◌<◌, ◌≤◌, ◌++◌, [], IfOk, IsErr, IsTrue, OnErr, OnOk, false, is_err, length, take, true};
 ghost use Rattle.bt_files.specs.calls.Opened.{output_has_failed, output_is_file, output_is_flushed, output_sink, output_took};
 
-use crate::logged::Logged;
 use bt_lines::{DeviceFailed, Sink, ToWrite};
 use std::fs::File;
 use std::io;
@@ -19,8 +17,8 @@ pub struct Output {
 
 #[derive(Drop)]
 pub(crate) enum Device {
-    Standard(Logged<ToWrite<Stdout>>),
-    File(Logged<ToWrite<File>>),
+    Standard(ToWrite<Stdout>),
+    File(ToWrite<File>),
 }
 
 impl Output {
@@ -30,7 +28,7 @@ impl Output {
         ensures none { output_took result ≡ [] }
     {
         Output {
-            device: Device::Standard(Logged::new(ToWrite::new(rt.stdout()))),
+            device: Device::Standard(ToWrite::new(rt.stdout())),
         }
     }
 
@@ -41,7 +39,7 @@ impl Output {
     {
         let file = File::create(rt, name)?;
         Ok(Output {
-            device: Device::File(Logged::new(ToWrite::new(file))),
+            device: Device::File(ToWrite::new(file)),
         })
     }
 }
@@ -58,7 +56,8 @@ impl Sink for Output {
     fn write(&mut self, bytes: &[u8]) -> Result<usize, DeviceFailed>
         ensures within { IfOk result (λ n. n ≤ length bytes.now) }
         ensures progress { IfOk result (λ n. 0 < length bytes.now → 0 < n) }
-        ensures bytes { WriteAppends (Some (output_took self.old)) (Some (output_took self.new)) result bytes.now }
+        ensures takes { IfOk result (λ n. output_took self.new ≡ output_took self.old ++ take n bytes.now) }
+        ensures takes_none { OnErr result (output_took self.new ≡ output_took self.old) }
         ensures served { OnOk result (output_has_failed self.new ≡ output_has_failed self.old) }
         ensures failed { OnErr result (output_has_failed self.new ≡ true) }
         ensures last { output_has_failed self.new ≡ is_err result }
@@ -74,7 +73,7 @@ impl Sink for Output {
     }
 
     fn flush(&mut self) -> Result<(), DeviceFailed>
-        ensures bytes { Keeps (Some (output_took self.old)) (Some (output_took self.new)) }
+        ensures takes_none { output_took self.new ≡ output_took self.old }
         ensures flushed { OnOk result (output_is_flushed self.new ≡ true) }
         ensures served { OnOk result (output_has_failed self.new ≡ output_has_failed self.old) }
         ensures failed { OnErr result (output_has_failed self.new ≡ true) }

@@ -1,6 +1,6 @@
 -- The words of std that proofs use.
 pub use Rattle.std.proofs.Common.{Bool, Decides, Err, Fits, List, MatchBool, None, Ok, Option, Result, Some, [], add-one, add-zero, add_assoc, ap, append-nil, append_assoc, ap₂, arith, bit_and, bit_or, bit_xor, bytes_eq, codes, cond, decimal, drop, eqb, false, filter, get_or, inl, inr, leb, leb-true, length, length-append, length-take, ltb, map, max, min, nat_eq, nat_le, nat_lt, not, option_to_list, pow-suc, refl, replicate, rules, set, slice_index_or, slice_range, slice_set, subst, suc, sym, take, true, vec_capacity, w64, w8, zero, ℕ, ⊎_elim, ◌%◌, ◌&&◌, ◌*◌, ◌++◌, ◌+◌, ◌-◌, ◌/◌, ◌<◌, ◌==◌, ◌^◌, ◌||◌, ◌∙◌, ◌∷◌, ◌≡◌, ◌≤◌, ◌⊎◌}
-pub use Rattle.std.proofs.KnownBytes.{Appends-nil, Appends-trans, Consumes-nil, Consumes-trans}
+pub use Rattle.std.proofs.KnownBytes.{Consumes-nil, Consumes-trans}
 pub use Rattle.std.proofs.Math.Bool.{or-false}
 pub use Rattle.std.proofs.Math.Dec.{T}
 pub use Rattle.std.proofs.Math.Facts.{eqb_yes}
@@ -41,7 +41,7 @@ pub use Rattle.std.specs.Int.{IsInRange, from_le_bytes, w32}
 pub use Rattle.std.specs.Int.Bits.{and_zero_r, xor_add_and, xor_zero_r}
 pub use Rattle.std.specs.Int.Digits.{number_from_digits, number_from_digits_after}
 pub use Rattle.std.specs.Io.BufRead.{ends_with_byte, strip_last}
-pub use Rattle.std.specs.Io.KnownBytes.{Appends, Consumes, IsAtEnd, Keeps, append_known, prepend_known}
+pub use Rattle.std.specs.Io.KnownBytes.{Consumes, IsAtEnd, prepend_known}
 pub use Rattle.std.specs.List.{AllByRecursion, AllPairs, find, join_with_byte, list_all, list_any, position_from, position_or_len, prefix_len, slice_get, take_while}
 pub use Rattle.std.specs.List.Sorted.{IsNonDecreasingBy, IsPartitionPoint, IsStrictlyIncreasing}
 pub use Rattle.std.specs.Map.{keys_of}

@@ -38,6 +38,7 @@ mod tests;
 mod writer;
 
 pub use device::from_read::FromRead;
+pub use device::moved_bytes::{MovedBytes, Piece};
 pub use device::script_sink::ScriptSink;
 pub use device::script_source::ScriptSource;
 pub use device::telling::{readers_tell_their_text, scripts_tell_their_text, what_is_left_is_told};

@@ -1,5 +1,5 @@
 -- Lemmas on records and intervals as lines.
-use Rattle.bt_lines.proofs.Std.{common_steps, ◌≡◌, ℕ, [], ◌∷◌, ◌++◌, List, Result, false, true, ◌∙◌, append_assoc, arith, drop, length, take, ◌-◌, length-drop, take_all, is_ok}
+use Rattle.bt_lines.proofs.Std.{common_steps, ◌≡◌, ℕ, [], ◌∷◌, ◌++◌, List, Result, false, true, ◌∙◌, append_assoc, arith, drop, length, take, ◌-◌, length-drop, take_all, is_ok, subst}
 use Rattle.bt_lines.specs.model.Fault.{FaultValue}
 use Rattle.bt_lines.specs.calls.Faults.{write_failed}
 use Rattle.bt_lines.specs.calls.Output.{Output, FailsToPut, Puts, PutsAll, span_text}
@@ -43,7 +43,8 @@ module _ (r : Feature) (end : List ℕ) where
 
   -- the record was cut off in its name or in its bounds
   pub cut_in_front : (old new : Output) (fault : FaultValue) → FailsToPut old (r.chrom ++ bounds_text r.start r.stop) fault new → FailsToPut old (bed_text r ++ end) fault new
-  cut_in_front old new fault p = grind (arith, front_parts, fails_before)
+  cut_in_front old new fault p =
+      subst (λ (l : List ℕ). FailsToPut old l fault new) front_parts (fails_before old new (r.chrom ++ bounds_text r.start r.stop) (r.rest ++ end) fault p)
 
   -- or after them, or put in full
   pub puts_record : {A : Type 0} (old mid new : Output) (result : Result A Fault) → PutsAll old (r.chrom ++ bounds_text r.start r.stop) mid → Puts mid (r.rest ++ end) result new

@@ -5,6 +5,7 @@ use Rattle.bt_lines.specs.calls.Device.{ReadsOn, begun, gave}
 use Rattle.bt_lines.specs.model.Lines.{whole_text}
 use Rattle.bt_tool.specs.calls.Inputs.{InputRead, MayHold, OfBoth, ReadsAs, ReadsSo, ReadsSoIf}
 use Rattle.bt_tool.specs.model.Options.{PlanSeen}
+use Rattle.bt_tool.specs.model.Report.{report_of}
 use Rattle.bt_tool.specs.model.Table.{Word}
 use Rattle.bt_files.specs.calls.Ending.{OpensIf, ReportsItsRun}
 use Rattle.bt_files.specs.calls.Opened.{opened_handed, opened_source, output_sink}
@@ -69,7 +70,7 @@ run_of before plan message left after run ran left_is =
     let genome_is = all_handed_if ran.genome ran.genome_after report.read.genome (none_handed before first_so.between plan.names.genome ran.genome first_so.genome_first) report.reads.genome_file in
     let first_is = all_handed ran.first ran.first_after report.read.first first_so.then_first.none report.reads.first_input in
     let second_is = all_handed_if ran.second ran.second_after report.read.second (none_handed inputs.between ran.opened.between plan.names.second ran.second inputs.then_second) report.reads.second_input in
-    let none = ap Some ran.opened.then_output.none in
+    let none = ran.opened.then_output.none in
     subst (λ r. IsRealRun plan r report.read ran.fault) (sym same) (record {
       genome_file = genome_is;
       first_input = first_is;
@@ -80,11 +81,11 @@ run_of before plan message left after run ran left_is =
         second_input = holds_if report.read.second ran.second_after second_is;
       };
       told = λ of_input texts may.
-          let said = report.told texts [] may none of_input in
-          (said.0, (let is = said.1 in cc));
+          let said = report.told texts may of_input in
+          (said.0, said.1 ∙ ap (λ l. l ++ (report_of plan.command texts).output) none);
       prefix = λ texts may.
-          let said = report.prefix texts [] may none in
-          (said.1, said.3 ∙ ap (λ l. l ++ said.1) (let is = said.2 in cc));
+          let said = report.prefix texts may in
+          (said.1, said.3 ∙ ap (λ l. l ++ said.1) (sym (said.2 ∙ ap (λ l. l ++ said.0) none)));
     })
 
 no_run : (P : OpenedFiles Opened Output → Type 0) (left : Option (OpenedFiles Opened Output)) → left ≡ None → IfSome left P

@@ -3,9 +3,9 @@
 use Rattle.std.specs.Prelude.{◌≡◌, Bool, true, false, is_some, List, [], ℕ, Option, Some, None, if◌then◌else◌}
 use Rattle.bt_lines.specs.declared.device.Sink.{Ghosts as Sink}
 use Rattle.bt_lines.specs.declared.device.Source.{Ghosts as Source}
-use Rattle.bt_lines.specs.calls.Device.{TellsFailure, read_has_failed, read_end_told, write_has_failed, write_is_flushed}
+use Rattle.bt_lines.specs.calls.Device.{TellsFailure, read_has_failed, read_end_told, write_has_failed, write_is_flushed, writer_took}
 use Rattle.bt_tool.specs.model.Options.{is_standard_input}
-use Rattle.bt_files.specs.calls.Logged.{HandsOver, device_of, moved_by}
+use Rattle.bt_files.specs.calls.Logged.{HandsOver, handed_by, source_below}
 use Rattle.bt_files.specs.declared.opened.Input.{Input}
 use Rattle.bt_files.specs.declared.opened.Input.TheVariants.{Standard as StandardInput, File as FileInput}
 use Rattle.bt_files.specs.declared.opened.Opened.{Opened}
@@ -18,16 +18,16 @@ use Rattle.bt_files.specs.declared.output.Device.TheVariants.{Standard as Standa
 -- An input of a run: a file, or standard input.
 
 abbrev pub input_has_failed : InputDevice → Bool
-input_has_failed (File source) = read_has_failed (device_of source)
-input_has_failed (Standard source) = read_has_failed (device_of source)
+input_has_failed (File source) = read_has_failed (source_below source)
+input_has_failed (Standard source) = read_has_failed (source_below source)
 
 abbrev pub input_end_told : InputDevice → Bool
-input_end_told (File source) = read_end_told (device_of source)
-input_end_told (Standard source) = read_end_told (device_of source)
+input_end_told (File source) = read_end_told (source_below source)
+input_end_told (Standard source) = read_end_told (source_below source)
 
 abbrev pub input_handed : InputDevice → List ℕ
-input_handed (File source) = moved_by source
-input_handed (Standard source) = moved_by source
+input_handed (File source) = handed_by source
+input_handed (Standard source) = handed_by source
 
 abbrev pub input_is_standard : InputDevice → Bool
 input_is_standard (File source) = false
@@ -66,16 +66,16 @@ pub record IsUnused (name : List ℕ) (input : Opened) : Type 0 where
 -- The output of a run: a file, or standard output.
 
 abbrev pub device_has_failed : Device → Bool
-device_has_failed (StandardOutput sink) = write_has_failed (device_of sink)
-device_has_failed (FileOutput sink) = write_has_failed (device_of sink)
+device_has_failed (StandardOutput sink) = write_has_failed sink
+device_has_failed (FileOutput sink) = write_has_failed sink
 
 abbrev pub device_is_flushed : Device → Bool
-device_is_flushed (StandardOutput sink) = write_is_flushed (device_of sink)
-device_is_flushed (FileOutput sink) = write_is_flushed (device_of sink)
+device_is_flushed (StandardOutput sink) = write_is_flushed sink
+device_is_flushed (FileOutput sink) = write_is_flushed sink
 
 abbrev pub device_took : Device → List ℕ
-device_took (StandardOutput sink) = moved_by sink
-device_took (FileOutput sink) = moved_by sink
+device_took (StandardOutput sink) = writer_took sink
+device_took (FileOutput sink) = writer_took sink
 
 abbrev pub device_is_file : Device → Bool
 device_is_file (StandardOutput sink) = false
@@ -99,7 +99,7 @@ output_took output = device_took output.device
 -- an output as a sink
 abbrev pub output_sink : Sink Output
 output_sink = record {
-  took = λ output. Some (output_took output);
+  took = output_took;
   has_failed = output_has_failed;
   last_failed = output_has_failed;
   is_flushed = output_is_flushed;

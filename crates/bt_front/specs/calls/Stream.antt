@@ -1,6 +1,5 @@
 -- A stream that is kept as it is read, and what becomes of it where another program takes it.
 use Rattle.std.specs.Prelude.{◌≡◌, ◌⊎◌, Bool, true, ℕ, List, ◌++◌, Option, Some, None}
-use Rattle.std.specs.Io.KnownBytes.{Appends}
 use Rattle.bt_lines.specs.calls.Device.{EndsAfter, FailsAfter, ReadsOn}
 use Rattle.bt_lines.specs.calls.Output.{Output}
 use Rattle.bt_lines.specs.declared.device.Source.{Ghosts as Source}
@@ -39,10 +38,10 @@ module _ {S : Type 0} (source : Source S) where
   pub record IsPoured (kept : List ℕ) (before : S) (taker : Output) (after : S) (new_taker : Output) : Type 0 where
     pub bytes : List ℕ
     pub served : EndsAfter source.is_read before bytes after
-    pub taken : Appends taker.put new_taker.took (kept ++ bytes)
+    pub taken : new_taker.took ≡ taker.put ++ (kept ++ bytes)
 
   -- The stream failed, or wasn't read to its end. The taker got what was kept, and what the stream gave before.
   pub record IsCutOff (kept : List ℕ) (before : S) (taker : Output) (after : S) (new_taker : Output) : Type 0 where
     pub bytes : List ℕ
     pub served : ReadsOn source.is_read before bytes after ⊎ FailsAfter source.is_read before bytes after
-    pub taken : Appends taker.put new_taker.took (kept ++ bytes)
+    pub taken : new_taker.took ≡ taker.put ++ (kept ++ bytes)

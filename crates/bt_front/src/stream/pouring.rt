@@ -1,7 +1,6 @@
 //! What becomes of a stream that another program takes.
 
-ghost use Rattle.std.specs.Prelude.{◌≡◌, IfErr, OnErr, OnOk};
-ghost use Rattle.std.specs.Io.KnownBytes.{Appends, Keeps};
+ghost use Rattle.std.specs.Prelude.{◌≡◌, ◌++◌, IfErr, OnErr, OnOk};
 ghost use Rattle.bt_lines.specs.calls.Output.{SinkFailed};
 ghost use Rattle.bt_front.specs.calls.Stream.{IsCutOff, IsPoured};
 ghost use Rattle.bt_front.specs.declared.stream.pouring.Unpoured.TheVariants.{Stream, Taker};
@@ -45,8 +44,8 @@ pub fn pour<S: Source, K: Sink>(
 
 // Hands on a piece, of which nothing is held back.
 fn put<K: Sink>(piece: &[u8], taker: &mut Out<K>) -> Result<(), Unpoured>
-    ensures put { OnOk result (Appends taker.old.output.put taker.new.output.put piece.now) }
-    ensures taken { OnOk result (Keeps taker.new.output.put taker.new.output.took) }
+    ensures put { OnOk result (taker.new.output.put ≡ taker.old.output.put ++ piece.now) }
+    ensures taken { OnOk result (taker.new.output.took ≡ taker.new.output.put) }
     ensures taker { IfErr result (λ why. why ≡ Taker) }
     ensures gone { OnErr result (SinkFailed taker.new.output) }
 {

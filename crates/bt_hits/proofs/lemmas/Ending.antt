@@ -1,5 +1,5 @@
 -- Lemmas on how writing ends.
-use Rattle.bt_lines.proofs.Std.{◌≡◌, ◌≢◌, ◌⊎◌, inl, inr, ℕ, Bool, true, false≢true, List, [], ◌++◌, Option, None, Some, Result, Ok, Err, refl, sym, ap, subst, ◌∙◌, append_assoc, append-nil, arith, Appends, Keeps}
+use Rattle.bt_lines.proofs.Std.{◌≡◌, ◌≢◌, ◌⊎◌, inl, inr, ℕ, Bool, true, false≢true, List, [], ◌++◌, Option, None, Some, Result, Ok, Err, sym, ap, subst, ◌∙◌, append_assoc, append-nil}
 use Rattle.bt_lines.specs.calls.Faults.{no_memory, write_failed}
 use Rattle.bt_lines.specs.calls.Names.{fault_value}
 use Rattle.bt_lines.specs.calls.Output.{FailsToAdd, Grown, IsPrefixOf, Output}
@@ -9,32 +9,28 @@ use Rattle.bt_lines.specs.model.Fault.{FaultValue}
 use Rattle.bt_hits.specs.calls.Listing.{CutsOff, ListsHits, TellsOutput, WritesHits}
 use Rattle.bt_hits.specs.inside.Ending.{EndsPutting, FailsToPass, PassesOn}
 
-appends_kept : (old mid new : Option (List ℕ)) (lines : List ℕ) → Appends old mid lines → Keeps mid new → Appends old new lines
-appends_kept = grind arith
+appends_kept : (old mid new lines : List ℕ) → mid ≡ old ++ lines → new ≡ mid → new ≡ old ++ lines
+appends_kept old mid new lines appends same = same ∙ appends
 
-kept_prefix : (old new : Option (List ℕ)) → Keeps old new → IsPrefixOf new old []
-kept_prefix old None keeps = tt
-kept_prefix None (Some new) keeps = tt
-kept_prefix (Some old) (Some new) keeps = ([], append-nil new ∙ (grind arith) ∙ sym (append-nil old))
+kept_prefix : (old new : List ℕ) → new ≡ old → IsPrefixOf new old []
+unfolding IsPrefixOf
+kept_prefix old new same = ([], ap (λ l. l ++ []) same)
 
-prefix_of : (old mid new : Option (List ℕ)) (put rest lines : List ℕ) → Appends old mid put → put ++ rest ≡ lines → IsPrefixOf new mid [] → IsPrefixOf new old lines
-prefix_of old mid None put rest lines appends are front = tt
-prefix_of None mid (Some new) put rest lines appends are front = tt
-prefix_of (Some old) None (Some new) put rest lines appends are front = absurd appends
-prefix_of (Some old) (Some mid) (Some new) put rest lines appends are front = (
+prefix_of : (old mid new put rest lines : List ℕ) → mid ≡ old ++ put → put ++ rest ≡ lines → IsPrefixOf new mid [] → IsPrefixOf new old lines
+unfolding IsPrefixOf
+prefix_of old mid new put rest lines appends are front = (
   front.0 ++ rest,
-  sym (append_assoc new front.0 rest) ∙ ap (λ l. l ++ rest) (front.1 ∙ append-nil mid) ∙ (grind (arith, append_assoc)),
+  sym (append_assoc new front.0 rest) ∙ ap (λ l. l ++ rest) (front.1 ∙ append-nil mid ∙ appends) ∙ append_assoc old put rest ∙ ap (λ l. old ++ l) are,
 )
 
-whole_prefix : (old new : Option (List ℕ)) (lines : List ℕ) → Appends old new lines → IsPrefixOf new old lines
-whole_prefix old None lines appends = tt
-whole_prefix None (Some new) lines appends = tt
-whole_prefix (Some old) (Some new) lines appends = ([], append-nil new ∙ (grind arith))
+whole_prefix : (old new lines : List ℕ) → new ≡ old ++ lines → IsPrefixOf new old lines
+unfolding IsPrefixOf
+whole_prefix old new lines appends = ([], append-nil new ∙ appends)
 
 -- what was put of the lines
-pub record Writes (took : Option (List ℕ)) (sink_failed : Bool) (lines : List ℕ) (fault : Option FaultValue) (new : Output) : Type 0 where
+pub record Writes (took : List ℕ) (sink_failed : Bool) (lines : List ℕ) (fault : Option FaultValue) (new : Output) : Type 0 where
   pub front : IsPrefixOf new.took took lines
-  pub whole : fault ≡ None → Appends took new.took lines
+  pub whole : fault ≡ None → new.took ≡ took ++ lines
   pub flushed : fault ≢ Some write_failed → new.sink_is_flushed ≡ true
   pub no_failed_write : fault ≢ Some write_failed → new.sink_has_failed ≡ sink_failed
   pub named : (told : FaultValue) → fault ≡ Some told → TellsOutput new.sink_has_failed new.sink_last_failed told

@@ -1,6 +1,5 @@
 -- What reading a text and listing hits do.
 use Rattle.std.specs.Prelude.{◌≡◌, ◌≢◌, ◌⊎◌, ℕ, Bool, true, false, List, ◌++◌, Option, None, Some, Result, Ok, Err}
-use Rattle.std.specs.Io.KnownBytes.{Appends}
 use Rattle.bt_lines.specs.declared.device.Sink.{Ghosts as Sink}
 use Rattle.bt_lines.specs.declared.fault.Input.{Input}
 use Rattle.bt_lines.specs.declared.fault.Fault.{Fault}
@@ -40,7 +39,7 @@ pub record WritesHits {K : Type 0} (sink : Sink K) (before : K) (lines : List �
   -- it took a prefix of the lines
   pub front : IsPrefixOf (sink.took after) (sink.took before) lines
   -- without a fault it took them all
-  pub whole : fault ≡ None → Appends (sink.took before) (sink.took after) lines
+  pub whole : fault ≡ None → sink.took after ≡ sink.took before ++ lines
   -- unless a failed write is reported, it has passed on what it took, and all its writes and flushes served
   pub flushed : fault ≢ Some write_failed → sink.is_flushed after ≡ true
   pub no_failed_write : fault ≢ Some write_failed → sink.has_failed after ≡ sink.has_failed before

@@ -1,6 +1,5 @@
 -- How writing ends.
 use Rattle.std.specs.Prelude.{◌≡◌, ◌⊎◌, true, false, [], Option, None, Some, Result, Ok, Err}
-use Rattle.std.specs.Io.KnownBytes.{Keeps}
 use Rattle.bt_lines.specs.calls.Faults.{write_failed}
 use Rattle.bt_lines.specs.calls.Names.{fault_value}
 use Rattle.bt_lines.specs.calls.Output.{IsPrefixOf, Output, SinkFailed}
@@ -9,7 +8,7 @@ use Rattle.bt_lines.specs.model.Fault.{FaultValue}
 
 -- what was put was passed on, all of it
 pub record PassesOn (old new : Output) : Type 0 where
-  pub taken : Keeps old.put new.took
+  pub taken : new.took ≡ old.put
   pub flushed : new.sink_is_flushed ≡ true
   pub was_served : old.has_failed ≡ false
   pub sink_served : new.sink_has_failed ≡ old.sink_has_failed

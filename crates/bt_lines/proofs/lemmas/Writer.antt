@@ -1,5 +1,5 @@
 -- Lemmas on writing.
-use Rattle.bt_lines.proofs.Std.{rules, ◌≡◌, ℕ, ◌+◌, ◌-◌, ◌*◌, ◌/◌, ◌≤◌, List, [], ◌∷◌, ◌++◌, set, slice_index, length, take, drop, refl, sym, ap, ◌∙◌, append_assoc, arith, length-append, length-take-le, take-add, take-take, take_all, length-chunk, length-put_chunk, take_more_put_chunk, take-put_mid, chunk, put_chunk, Option, None, Some, take-append-drop, Appends-trans, Appends, Keeps, append_known, Bool, Result, Ok, Err, true, false, append-nil, OnOk, OnErr, IfErr, IsErr, flat_map, flat_map-append, Appends-nil, ◌^◌, ◌<◌, decimal, length-decimal-le, drop-set, drop_at, length-drop, take-append-le, take_at}
+use Rattle.bt_lines.proofs.Std.{rules, ◌≡◌, ℕ, ◌+◌, ◌-◌, ◌*◌, ◌/◌, ◌≤◌, List, [], ◌∷◌, ◌++◌, set, slice_index, length, take, drop, refl, sym, ap, ◌∙◌, append_assoc, arith, length-append, length-take-le, take-add, take-take, take_all, length-chunk, length-put_chunk, take_more_put_chunk, take-put_mid, chunk, put_chunk, take-append-drop, Bool, Result, Ok, Err, true, false, false≢true, append-nil, OnOk, OnErr, IfErr, IsErr, flat_map, flat_map-append, ◌^◌, ◌<◌, decimal, length-decimal-le, drop-set, drop_at, length-drop, take-append-le, take_at}
 use borrow.Rule.Slice.PartMut.{put_mid}
 use Rattle.bt_lines.specs.calls.Output.{IsPrefixOf, Grows, HoldsBlock, block_size, Output, WorksAsBefore, PutsAll, FailsToPut, Puts, Grown, FailsToAdd, Adds, span_text, SinkFailed}
 use Rattle.bt_lines.specs.model.Fault.{FaultValue}
@@ -52,28 +52,33 @@ few_copied (x ∷ y ∷ z ∷ w ∷ to) piece same some few = absurd (omega arit
 -- Lemmas on what was put and what was taken.
 
 -- a part of the piece was taken, and then nothing
-pub front_part : (old mid new : Option (List ℕ)) (taken rest piece : List ℕ) → piece ≡ taken ++ rest → Appends old mid taken → Keeps mid new → IsPrefixOf new old piece
-front_part old mid None taken rest piece e p q = tt
-front_part None mid (Some new) taken rest piece e p q = tt
-front_part (Some old) None (Some new) taken rest piece e p q = absurd p
-front_part (Some old) (Some mid) (Some new) taken rest piece e p q = grind (arith, (append_assoc old taken rest))
+pub front_part : (old mid new taken rest piece : List ℕ) → piece ≡ taken ++ rest → mid ≡ old ++ taken → new ≡ mid → IsPrefixOf new old piece
+unfolding IsPrefixOf
+front_part old mid new taken rest piece e p q = (rest, ap (λ l. l ++ rest) (q ∙ p) ∙ append_assoc old taken rest ∙ ap (λ l. old ++ l) (sym e))
 
 -- one more part was taken
-pub more_taken : (old mid new : Option (List ℕ)) (taken rest piece : List ℕ) (n : ℕ) → piece ≡ taken ++ rest → Appends old mid taken → Appends mid new (take n rest)
-    → (piece ≡ (taken ++ take n rest) ++ drop n rest) × Appends old new (taken ++ take n rest)
+pub more_taken : (old mid new taken rest piece : List ℕ) (n : ℕ) → piece ≡ taken ++ rest → mid ≡ old ++ taken → new ≡ mid ++ take n rest
+    → (piece ≡ (taken ++ take n rest) ++ drop n rest) × (new ≡ old ++ (taken ++ take n rest))
 more_taken old mid new taken rest piece n e p q = grind (arith, take-append-drop, append_assoc)
 
 -- what was taken is a prefix of itself and of what is held back
-pub front_held : (took : Option (List ℕ)) (held more : List ℕ) → IsPrefixOf took (append_known took held) more
-front_held None held more = tt
-front_held (Some took) held more = (held ++ more, sym (append_assoc took held more))
+pub front_held : (took held more : List ℕ) → IsPrefixOf took (took ++ held) more
+unfolding IsPrefixOf
+front_held took held more = (held ++ more, sym (append_assoc took held more))
+
+-- what was held back was sent in part, or all of it was taken
+pub front_sent : (new old held : List ℕ) → IsPrefixOf new old held → IsPrefixOf new (old ++ held) []
+unfolding IsPrefixOf
+front_sent new old held f = (f.0, f.1 ∙ sym (append-nil (old ++ held)))
+
+pub front_taken : (new mid old held : List ℕ) → mid ≡ old ++ held → new ≡ mid → IsPrefixOf new (old ++ held) []
+unfolding IsPrefixOf
+front_taken new mid old held p q = ([], ap (λ l. l ++ []) (q ∙ p))
 
 -- a prefix of what is held back and of the first bytes of a piece
-pub front_filled : (old new : Option (List ℕ)) (held piece : List ℕ) (n : ℕ) → IsPrefixOf new old (held ++ take n piece) → IsPrefixOf new (append_known old held) piece
-front_filled None None held piece n h = tt
-front_filled (Some old) None held piece n h = tt
-front_filled None (Some new) held piece n h = tt
-front_filled (Some old) (Some new) held piece n h = (
+pub front_filled : (old new held piece : List ℕ) (n : ℕ) → IsPrefixOf new old (held ++ take n piece) → IsPrefixOf new (old ++ held) piece
+unfolding IsPrefixOf
+front_filled old new held piece n h = (
   h.0 ++ drop n piece,
   sym (append_assoc new h.0 (drop n piece)) ∙ ap (λ l. l ++ drop n piece) h.1 ∙ append_assoc old (held ++ take n piece) (drop n piece)
       ∙ ap (λ l. old ++ l) (append_assoc held (take n piece) (drop n piece) ∙ ap (λ l. held ++ l) (take-append-drop n piece)) ∙ sym (append_assoc old held piece),
@@ -84,40 +89,49 @@ module _ (held piece : List ℕ) (n k : ℕ) where
   abbrev pub rest : List ℕ
   rest = drop n piece
 
-  pub put_over : (old mid new : Option (List ℕ)) → Appends old mid (held ++ take n piece) → Appends mid new (take k rest) → Appends (append_known old held) (append_known new (drop k rest)) piece
+  pub put_over : (old mid new : List ℕ) → mid ≡ old ++ (held ++ take n piece) → new ≡ mid ++ take k rest → new ++ drop k rest ≡ (old ++ held) ++ piece
   put_over old mid new p q = grind (arith, append_assoc, take-append-drop)
 
-  pub front_over : (old mid new : Option (List ℕ)) → Appends old mid (held ++ take n piece) → IsPrefixOf new mid (take k rest) → IsPrefixOf new (append_known old held) piece
-  front_over old mid None p f = tt
-  front_over None mid (Some new) p f = tt
-  front_over (Some old) None (Some new) p f = absurd p
-  front_over (Some old) (Some mid) (Some new) p f = grind (arith, (append_assoc new f.0 (drop k rest)), append_assoc, take-append-drop)
+  pub front_over : (old mid new next : List ℕ) → next ≡ rest → mid ≡ old ++ (held ++ take n piece) → IsPrefixOf new mid (take k next) → IsPrefixOf new (old ++ held) piece
+  unfolding IsPrefixOf
+  front_over old mid new next same p f = (f.0 ++ drop k rest, grind (arith, (append_assoc new f.0 (drop k rest)), append_assoc, take-append-drop))
 
 -- what was taken grows, and grows again
-pub grows_both : (old mid new : Option (List ℕ)) → Grows old mid → Grows mid new → Grows old new
-grows_both old mid new p q = (p.0 ++ q.0, Appends-trans old mid new p.0 q.0 p.1 q.1)
+pub grows_both : (old mid new : List ℕ) → Grows old mid → Grows mid new → Grows old new
+grows_both old mid new p q = (p.0 ++ q.0, q.1 ∙ ap (λ l. l ++ q.0) p.1 ∙ append_assoc old p.0 q.0)
 
 -- what is held back is what was put and not taken
-pub holds_held : (took : Option (List ℕ)) (held : List ℕ) → length held ≤ block_size → HoldsBlock took (append_known took held)
-holds_held took held short = grind arith
+pub holds_held : (took held : List ℕ) → length held ≤ block_size → HoldsBlock took (took ++ held)
+holds_held took held short = (held, refl, short)
 
 -- What one put after another does to an output.
 
 -- a prefix of the first bytes is a prefix of them and more
-pub front_longer : (new old : Option (List ℕ)) (xs ys : List ℕ) → IsPrefixOf new old xs → IsPrefixOf new old (xs ++ ys)
-front_longer None old xs ys f = tt
-front_longer (Some new) None xs ys f = tt
-front_longer (Some new) (Some old) xs ys f = grind (arith, (append_assoc new f.0 ys), (append_assoc old xs ys))
+pub front_longer : (new old xs ys : List ℕ) → IsPrefixOf new old xs → IsPrefixOf new old (xs ++ ys)
+unfolding IsPrefixOf
+front_longer new old xs ys f = (f.0 ++ ys, sym (append_assoc new f.0 ys) ∙ ap (λ l. l ++ ys) f.1 ∙ append_assoc old xs ys)
 
-pub grows_nothing : (a : Option (List ℕ)) → Grows a a
-grows_nothing a = ([], Appends-nil a)
+-- a prefix of what was put, with more bytes
+front_behind : (new old mid xs ys : List ℕ) → mid ≡ old ++ xs → IsPrefixOf new mid ys → IsPrefixOf new old (xs ++ ys)
+unfolding IsPrefixOf
+front_behind new old mid xs ys p f = (f.0, f.1 ∙ ap (λ l. l ++ ys) p ∙ append_assoc old xs ys)
+
+pub grows_nothing : (a : List ℕ) → Grows a a
+grows_nothing a = ([], sym (append-nil a))
 
 module _ (old mid new : Output) (xs ys : List ℕ) where
   pub put_more : PutsAll old xs mid → PutsAll mid ys new → PutsAll old (xs ++ ys) new
-  put_more p q = grind (arith, Appends-trans)
+  put_more p q = grind (arith, append_assoc, (grows_both old.took mid.took new.took p.grows q.grows))
 
   pub fails_behind : (fault : FaultValue) → PutsAll old xs mid → FailsToPut mid ys fault new → FailsToPut old (xs ++ ys) fault new
-  fails_behind fault p q = grind (arith, append_assoc, (grows_both old.took mid.took new.took p.grows q.grows))
+  fails_behind fault p q = record {
+    is = q.is;
+    front = front_behind new.took old.put mid.put xs ys p.appends q.front;
+    grows = grows_both old.took mid.took new.took p.grows q.grows;
+    failed = q.failed;
+    sink_failed = q.sink_failed;
+    again = λ was. absurd (false≢true (sym p.was_served ∙ was));
+  }
 
 pub fails_before : (old new : Output) (xs ys : List ℕ) (fault : FaultValue) → FailsToPut old xs fault new → FailsToPut old (xs ++ ys) fault new
 fails_before old new xs ys fault p = grind (arith, front_longer)
@@ -129,17 +143,17 @@ puts_more old mid new xs ys (Err fault) p q = fails_behind old mid new xs ys (fa
 
 -- what the clauses of a put say, together
 pub puts_from : {A : Type 0} (old new : Output) (bytes : List ℕ) (r : Result A Fault)
-    → OnOk r (Appends old.put new.put bytes) → OnOk r (HoldsBlock new.took new.put) → OnErr r (IsPrefixOf new.took old.put bytes) → Grows old.took new.took
+    → OnOk r (new.put ≡ old.put ++ bytes) → OnOk r (HoldsBlock new.took new.put) → OnErr r (IsPrefixOf new.took old.put bytes) → Grows old.took new.took
     → OnOk r ((new.has_failed ≡ false) × (old.has_failed ≡ false) × (new.sink_has_failed ≡ old.sink_has_failed))
     → IfErr r (λ fault. fault_value fault ≡ write_failed) → OnErr r ((new.has_failed ≡ true) × SinkFailed new)
     → (old.has_failed ≡ true → IsErr r × (new ≡ old)) → Puts old bytes r new
 puts_from old new bytes r p b f g s w c a = grind arith
 
 -- bytes are held back
-module _ (took : Option (List ℕ)) (failed sink_failed last_failed flushed : Bool) where
+module _ (took : List ℕ) (failed sink_failed last_failed flushed : Bool) where
   abbrev holding : List ℕ → Output
   holding held = record {
-    put = append_known took held;
+    put = took ++ held;
     took = took;
     has_failed = failed;
     sink_has_failed = sink_failed;
@@ -170,10 +184,20 @@ nothing_behind (x ∷ xs) ys e = cc
 
 module _ (old mid new : Output) (xs ys : List ℕ) where
   pub grown_more : Grown old xs mid → Grown mid ys new → Grown old (xs ++ ys) new
-  grown_more p q = grind (arith, (Appends-trans old.put mid.put new.put xs ys p.appends q.appends), (grows_both old.took mid.took new.took p.grows q.grows), nothing_before)
+  grown_more p q = grind (arith, append_assoc, (grows_both old.took mid.took new.took p.grows q.grows), nothing_before)
 
   pub fails_then : (fault : FaultValue) → Grown old xs mid → FailsToAdd mid ys fault new → FailsToAdd old (xs ++ ys) fault new
-  fails_then fault p q = grind (arith, append_assoc, (grows_both old.took mid.took new.took p.grows q.puts.grows), nothing_behind)
+  fails_then fault p q = record {
+    puts = record {
+      is = q.puts.is;
+      front = front_behind new.took old.put mid.put xs ys p.appends q.puts.front;
+      grows = grows_both old.took mid.took new.took p.grows q.puts.grows;
+      failed = q.puts.failed;
+      sink_failed = q.puts.sink_failed;
+      again = λ was. q.puts.again (ap (λ (o : Output). o.has_failed) (p.again was) ∙ was) ∙ p.again was;
+    };
+    some = λ none. q.some (nothing_behind xs ys none);
+  }
 
 pub adds_more : {A : Type 0} (old mid new : Output) (xs ys : List ℕ) (r : Result A Fault) → Grown old xs mid → Adds mid ys r new → Adds old (xs ++ ys) r new
 adds_more old mid new xs ys (Ok done) p q = grown_more old mid new xs ys p q
@@ -181,7 +205,7 @@ adds_more old mid new xs ys (Err fault) p q = fails_then old mid new xs ys (faul
 
 -- what was cut off is cut off of more
 pub cut_off : (old new : Output) (xs ys : List ℕ) (fault : FaultValue) → FailsToAdd old xs fault new → FailsToAdd old (xs ++ ys) fault new
-cut_off old new xs ys fault p = grind (arith, fails_before, nothing_before)
+cut_off old new xs ys fault p = record { puts = fails_before old new xs ys fault p.puts; some = λ e. p.some (nothing_before xs ys e) }
 
 -- a call that puts bytes writes them
 pub adds_some : {A : Type 0} (old new : Output) (bytes : List ℕ) (r : Result A Fault) → (bytes ≡ [] → ⊥) → Puts old bytes r new → Adds old bytes r new

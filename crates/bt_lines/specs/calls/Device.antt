@@ -85,6 +85,10 @@ read_end_told s = s.end_told
 abbrev pub writer_of : {W : Type 0} → ToWrite W → W
 writer_of s = s.writer
 
+-- the bytes that the writer took since the sink was made
+abbrev pub writer_took : {W : Type 0} → ToWrite W → List ℕ
+writer_took s = s.taken.bytes
+
 -- whether the writer has failed
 abbrev pub write_has_failed : {W : Type 0} → ToWrite W → Bool
 write_has_failed s = s.has_failed

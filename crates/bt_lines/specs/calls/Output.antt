@@ -1,6 +1,5 @@
 -- What an output holds, and what calls do that put bytes.
-use Rattle.std.specs.Prelude.{◌≡◌, ℕ, ◌≤◌, Bool, List, ◌++◌, length, Option, Some, None, ⊤, true, false, [], ◌∷◌, Result, Ok, Err, codes, decimal}
-use Rattle.std.specs.Io.KnownBytes.{Appends}
+use Rattle.std.specs.Prelude.{◌≡◌, ℕ, ◌≤◌, Bool, List, ◌++◌, length, true, false, [], ◌∷◌, Result, Ok, Err, codes, decimal}
 use Rattle.bt_lines.specs.model.Fault.{FaultValue}
 use Rattle.bt_lines.specs.calls.Faults.{write_failed}
 use Rattle.bt_lines.specs.calls.Names.{fault_value}
@@ -12,10 +11,10 @@ use Rattle.bt_lines.specs.declared.fault.Fault.{Fault}
 abbrev pub block_size : ℕ
 block_size = 8192
 
--- an output over a sink: the bytes put and the bytes that the sink took, if they are known
+-- an output over a sink: the bytes put and the bytes that the sink took, those before the output was made included
 pub record Output : Type 0 where
-  pub put : Option (List ℕ)
-  pub took : Option (List ℕ)
+  pub put : List ℕ
+  pub took : List ℕ
   pub has_failed : Bool
   pub sink_has_failed : Bool
   -- whether the sink's last call failed
@@ -34,23 +33,20 @@ abbrev pub SinkFailed : Output → Type 0
 SinkFailed output = (output.sink_has_failed ≡ true) × (output.sink_last_failed ≡ true)
 
 -- what was put and what was taken differ by at most a block, held back
-abbrev pub HoldsBlock : Option (List ℕ) → Option (List ℕ) → Type 0
-HoldsBlock took put = (held : List ℕ) × Appends took put held × (length held ≤ block_size)
+abbrev pub HoldsBlock : List ℕ → List ℕ → Type 0
+HoldsBlock took put = (held : List ℕ) × (put ≡ took ++ held) × (length held ≤ block_size)
 
--- new is a prefix of the known bytes old, with more bytes after them
-abbrev pub IsPrefixOf : Option (List ℕ) → Option (List ℕ) → List ℕ → Type 0
-IsPrefixOf None old more = ⊤
-IsPrefixOf (Some new) None more = ⊤
-IsPrefixOf (Some new) (Some old) more = (rest : List ℕ) × (new ++ rest ≡ old ++ more)
+-- new is a prefix of old with more bytes after it
+unfoldable pub IsPrefixOf : List ℕ → List ℕ → List ℕ → Type 0
+IsPrefixOf new old more = (rest : List ℕ) × (new ++ rest ≡ old ++ more)
 
--- known bytes stay as they are, and some may have been appended
-abbrev pub Grows : Option (List ℕ) → Option (List ℕ) → Type 0
-Grows old new = (more : List ℕ) × Appends old new more
+-- the bytes stay as they are, and some may have been appended
+abbrev pub Grows : List ℕ → List ℕ → Type 0
+Grows old new = (more : List ℕ) × (new ≡ old ++ more)
 
 -- What calls that put bytes do to an output, and how two texts go on to one another there.
 
--- the output still works: what was put is known if it was,
--- and at most a block of it is held back
+-- the output still works: what was put stays put, and at most a block of it is held back
 pub record WorksAsBefore (old new : Output) : Type 0 where
   pub served : new.has_failed ≡ old.has_failed
   pub sink_served : new.sink_has_failed ≡ old.sink_has_failed
@@ -59,7 +55,7 @@ pub record WorksAsBefore (old new : Output) : Type 0 where
 
 -- the bytes were put, all of them
 pub record PutsAll (old : Output) (bytes : List ℕ) (new : Output) : Type 0 where
-  pub appends : Appends old.put new.put bytes
+  pub appends : new.put ≡ old.put ++ bytes
   pub block : HoldsBlock new.took new.put
   pub grows : Grows old.took new.took
   pub was_served : old.has_failed ≡ false
@@ -82,7 +78,7 @@ Puts old bytes (Err fault) new = FailsToPut old bytes (fault_value fault) new
 
 -- the output grew by these bytes, which are none if it stays as it is
 pub record Grown (old : Output) (bytes : List ℕ) (new : Output) : Type 0 where
-  pub appends : Appends old.put new.put bytes
+  pub appends : new.put ≡ old.put ++ bytes
   pub block : HoldsBlock old.took old.put → HoldsBlock new.took new.put
   pub grows : Grows old.took new.took
   pub served : new.has_failed ≡ old.has_failed
@@ -105,7 +101,7 @@ module _ (before after : List ℕ) (old new : Output) where
   pub record PutsRest : Type 0 where
     pub bytes : List ℕ
     pub goes_on : after ≡ before ++ bytes
-    pub appends : Appends old.put new.put bytes
+    pub appends : new.put ≡ old.put ++ bytes
 
   -- they weren't all put: what the sink took is a prefix of them
   pub record CutsRest : Type 0 where

@@ -1,13 +1,13 @@
 //! Where bytes come from and where they go to.
 
 pub(crate) mod from_read;
+pub(crate) mod moved_bytes;
 pub(crate) mod script_sink;
 pub(crate) mod script_source;
 pub(crate) mod telling;
 pub(crate) mod to_write;
 
-ghost use Rattle.std.specs.Prelude.{◌≡◌, ℕ, ◌<◌, ◌≤◌, Bool, true, false, Option, Some, None, List, is_err, length, IfNone, IfSome, IfOk, OnOk, OnErr};
-ghost use Rattle.std.specs.Io.KnownBytes.{Keeps, WriteAppends};
+ghost use Rattle.std.specs.Prelude.{◌≡◌, ℕ, ◌<◌, ◌≤◌, Bool, true, false, Option, Some, None, List, ◌++◌, is_err, length, take, IfNone, IfSome, IfOk, OnOk, OnErr};
 ghost use Rattle.bt_lines.specs.calls.Device.{call_of, is_spent, let_through};
 
 /// How many bytes a reader buffers at most, and an output holds back.
@@ -41,8 +41,8 @@ pub trait Source {
 
 /// Where bytes go to.
 pub trait Sink {
-    // The bytes that it took, if they are known.
-    ghost took: { Self → Option (List ℕ) };
+    // The bytes that it took.
+    ghost took: { Self → List ℕ };
 
     // Whether a write or a flush has failed.
     ghost has_failed: { Self → Bool };
@@ -58,14 +58,15 @@ pub trait Sink {
     fn write(&mut self, bytes: &[u8]) -> Result<usize, DeviceFailed>
         ensures within { IfOk result (λ n. n ≤ length bytes.now) }
         ensures progress { IfOk result (λ n. 0 < length bytes.now → 0 < n) }
-        ensures bytes { WriteAppends (took self.old) (took self.new) result bytes.now }
+        ensures takes { IfOk result (λ n. took self.new ≡ took self.old ++ take n bytes.now) }
+        ensures takes_none { OnErr result (took self.new ≡ took self.old) }
         ensures served { OnOk result (has_failed self.new ≡ has_failed self.old) }
         ensures failed { OnErr result (has_failed self.new ≡ true) }
         ensures last { last_failed self.new ≡ is_err result };
 
     /// Passes on what it may still hold back.
     fn flush(&mut self) -> Result<(), DeviceFailed>
-        ensures bytes { Keeps (took self.old) (took self.new) }
+        ensures takes_none { took self.new ≡ took self.old }
         ensures flushed { OnOk result (is_flushed self.new ≡ true) }
         ensures served { OnOk result (has_failed self.new ≡ has_failed self.old) }
         ensures failed { OnErr result (has_failed self.new ≡ true) }

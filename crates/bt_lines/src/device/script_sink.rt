@@ -1,7 +1,6 @@
 //! A sink that plays a script, for tests.
 
-ghost use Rattle.std.specs.Prelude.{◌≡◌, ℕ, ◌+◌, ◌<◌, ◌≤◌, ◌++◌, [], IsTrue, IsErr, IsOk, is_err, length, IfOk, OnOk, OnErr, Some, true, false, take, min};
-ghost use Rattle.std.specs.Io.KnownBytes.{Keeps, WriteAppends};
+ghost use Rattle.std.specs.Prelude.{◌≡◌, ℕ, ◌+◌, ◌<◌, ◌≤◌, ◌++◌, [], IsTrue, IsErr, IsOk, is_err, length, IfOk, OnOk, OnErr, true, false, take, min};
 ghost use Rattle.bt_lines.specs.calls.Device.{is_spent, let_through};
 
 use crate::device::{DeviceFailed, Sink, let_through};
@@ -61,7 +60,7 @@ impl ScriptSink {
 }
 
 impl Sink for ScriptSink {
-    ghost took = { λ s. Some s.taken };
+    ghost took = { λ s. s.taken };
 
     ghost has_failed = { λ s. s.has_failed };
 
@@ -72,7 +71,8 @@ impl Sink for ScriptSink {
     fn write(&mut self, bytes: &[u8]) -> Result<usize, DeviceFailed>
         ensures within { IfOk result (λ n. n ≤ length bytes.now) }
         ensures progress { IfOk result (λ n. 0 < length bytes.now → 0 < n) }
-        ensures bytes { WriteAppends (Some self.old.taken) (Some self.new.taken) result bytes.now }
+        ensures takes { IfOk result (λ n. self.new.taken ≡ self.old.taken ++ take n bytes.now) }
+        ensures takes_none { OnErr result (self.new.taken ≡ self.old.taken) }
         ensures served { OnOk result (self.new.has_failed ≡ self.old.has_failed) }
         ensures failed { OnErr result (self.new.has_failed ≡ true) }
         ensures last { self.new.has_failed ≡ is_err result }
@@ -104,7 +104,7 @@ impl Sink for ScriptSink {
     }
 
     fn flush(&mut self) -> Result<(), DeviceFailed>
-        ensures bytes { Keeps (Some self.old.taken) (Some self.new.taken) }
+        ensures takes_none { self.new.taken ≡ self.old.taken }
         ensures served { OnOk result (self.new.has_failed ≡ self.old.has_failed) }
         ensures failed { OnErr result (self.new.has_failed ≡ true) }
         ensures last { self.new.has_failed ≡ is_err result }

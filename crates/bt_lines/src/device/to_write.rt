@@ -1,9 +1,10 @@
 //! A writer of std as a sink.
 
-ghost use Rattle.std.specs.Prelude.{◌≡◌, ℕ, ◌<◌, ◌≤◌, false, true, IsTrue, IsErr, is_err, length, IfOk, OnOk, OnErr};
+ghost use Rattle.std.specs.Prelude.{◌≡◌, ℕ, ◌<◌, ◌≤◌, ◌++◌, [], false, true, IsTrue, IsErr, is_err, length, take, IfOk, OnOk, OnErr};
 ghost use Rattle.std.specs.Io.KnownBytes.{Keeps, WriteAppends};
-ghost use Rattle.bt_lines.specs.calls.Device.{writer_of, write_has_failed, write_is_flushed};
+ghost use Rattle.bt_lines.specs.calls.Device.{writer_of, writer_took, write_has_failed, write_is_flushed};
 
+use crate::device::moved_bytes::{MovedBytes, Piece};
 use crate::device::{DeviceFailed, Sink};
 use std::io::Write;
 
@@ -17,12 +18,15 @@ pub struct ToWrite<W> {
     has_failed: bool,
     // Whether nothing was written since the last flush that went well.
     is_flushed: bool,
+    // What the writer took, in proofs alone.
+    taken: MovedBytes,
 }
 
 impl<W> ToWrite<W> {
     /// A sink that hands bytes to the writer.
     pub fn new(writer: W) -> ToWrite<W>
         ensures writer { writer_of result ≡ writer }
+        ensures none { writer_took result ≡ [] }
         ensures served { write_has_failed result ≡ false }
         ensures unflushed { write_is_flushed result ≡ false }
     {
@@ -30,6 +34,7 @@ impl<W> ToWrite<W> {
             writer,
             has_failed: false,
             is_flushed: false,
+            taken: MovedBytes::new(),
         }
     }
 
@@ -43,7 +48,7 @@ impl<W> ToWrite<W> {
 }
 
 impl<W: Write> Sink for ToWrite<W> {
-    ghost took = { λ s. W.contents (writer_of s) };
+    ghost took = { writer_took };
 
     ghost has_failed = { write_has_failed };
 
@@ -52,10 +57,13 @@ impl<W: Write> Sink for ToWrite<W> {
 
     ghost is_flushed = { write_is_flushed };
 
+    // `below` says that the writer takes the same bytes, if it knows its contents.
     fn write(&mut self, bytes: &[u8]) -> Result<usize, DeviceFailed>
         ensures within { IfOk result (λ n. n ≤ length bytes.now) }
         ensures progress { IfOk result (λ n. 0 < length bytes.now → 0 < n) }
-        ensures bytes { WriteAppends (W.contents (writer_of self.old))
+        ensures takes { IfOk result (λ n. writer_took self.new ≡ writer_took self.old ++ take n bytes.now) }
+        ensures takes_none { OnErr result (writer_took self.new ≡ writer_took self.old) }
+        ensures below { WriteAppends (W.contents (writer_of self.old))
             (W.contents (writer_of self.new)) result bytes.now }
         ensures served { OnOk result (write_has_failed self.new ≡ write_has_failed self.old) }
         ensures failed { OnErr result (write_has_failed self.new ≡ true) }
@@ -70,7 +78,12 @@ impl<W: Write> Sink for ToWrite<W> {
         }
         self.is_flushed = false;
         match self.writer.write(bytes) {
-            Ok(count) if count > 0 || bytes.is_empty() => Ok(count),
+            Ok(count) if count > 0 || bytes.is_empty() => {
+                self.taken = self.taken.with(&Piece {
+                    bytes: &bytes[..count],
+                });
+                Ok(count)
+            }
             _ => {
                 self.has_failed = true;
                 Err(DeviceFailed)
@@ -79,7 +92,8 @@ impl<W: Write> Sink for ToWrite<W> {
     }
 
     fn flush(&mut self) -> Result<(), DeviceFailed>
-        ensures bytes { Keeps (W.contents (writer_of self.old)) (W.contents (writer_of self.new)) }
+        ensures takes_none { writer_took self.new ≡ writer_took self.old }
+        ensures below { Keeps (W.contents (writer_of self.old)) (W.contents (writer_of self.new)) }
         ensures flushed { OnOk result (write_is_flushed self.new ≡ true) }
         ensures served { OnOk result (write_has_failed self.new ≡ write_has_failed self.old) }
         ensures failed { OnErr result (write_has_failed self.new ≡ true) }

@@ -1,9 +1,10 @@
-ghost use Rattle.std.specs.Prelude.{None, true, ⊤};
+ghost use Rattle.std.specs.Prelude.{true, ⊤};
 
 use crate::tests::output_tests::fails_again;
 use crate::tests::{Want, gives_all, gives_some, has_ended, holds};
 use crate::{
-    BLOCK, DeviceFailed, FromRead, Input, LineEnd, LineReader, Out, Sink, Source, ToWrite,
+    BLOCK, DeviceFailed, FromRead, Input, LineEnd, LineReader, MovedBytes, Out, Piece, Sink,
+    Source, ToWrite,
 };
 use std::alloc::Global;
 use std::io;
@@ -249,12 +250,13 @@ fn a_source_that_failed_is_read_no_more(rt: HostRuntime) {
 // A sink that takes everything, and whose first flush fails.
 #[derive(Drop)]
 struct FlushFails {
+    taken: MovedBytes,
     flushes: u8,
     has_failed: bool,
 }
 
 impl Sink for FlushFails {
-    ghost took = { λ _. None };
+    ghost took = { λ s. s.taken.bytes };
 
     ghost has_failed = { λ s. s.has_failed };
 
@@ -266,6 +268,7 @@ impl Sink for FlushFails {
         if self.has_failed {
             return Err(DeviceFailed);
         }
+        self.taken = self.taken.with(&Piece { bytes });
         Ok(bytes.len())
     }
 
@@ -284,6 +287,7 @@ impl Sink for FlushFails {
 fn a_flush_that_fails(rt: HostRuntime) {
     let (flushes, has_failed) = (0, false);
     let mut output = Out::new(FlushFails {
+        taken: MovedBytes::new(),
         flushes,
         has_failed,
     });

@@ -1,7 +1,6 @@
 //! Bytes out, in order, to a sink.
 
-ghost use Rattle.std.specs.Prelude.{◌≡◌, ◌++◌, ◌+◌, ◌%◌, ℕ, ◌≤◌, ◌<◌, false, true, List, [], length, OnOk, OnErr, IfErr, IsErr, Some, None};
-ghost use Rattle.std.specs.Io.KnownBytes.{Appends, Keeps, append_known};
+ghost use Rattle.std.specs.Prelude.{◌≡◌, ◌++◌, ◌+◌, ◌%◌, ℕ, ◌≤◌, ◌<◌, false, true, List, [], length, OnOk, OnErr, IfErr, IsErr};
 ghost use Rattle.bt_lines.specs.calls.Output.{HoldsBlock, IsPrefixOf, Grows, SinkFailed, block_size, PutsAll, span_text};
 ghost use Rattle.bt_lines.specs.calls.Faults.{write_failed};
 ghost use Rattle.bt_lines.specs.calls.Names.{fault_value};
@@ -27,15 +26,14 @@ pub struct Out<K: Sink> {
 }
 
 impl<K: Sink> Model for Out<K> {
-    ghost use Rattle.std.specs.Prelude.{◌≡◌, true};
-    ghost use Rattle.std.specs.Io.KnownBytes.{append_known};
+    ghost use Rattle.std.specs.Prelude.{◌≡◌, ◌++◌, true};
     ghost use Rattle.bt_lines.specs.calls.Output.{OutputOver};
 
     ghost Value = { OutputOver K };
 
     ghost view = { λ o. record {
       output = record {
-        put = append_known (K.took o.sink) o.held;
+        put = K.took o.sink ++ o.held;
         took = K.took o.sink;
         has_failed = o.has_failed;
         sink_has_failed = K.has_failed o.sink;
@@ -74,7 +72,7 @@ impl<K: Sink> Out<K> {
     /// Puts a piece after what was put before. It may not reach the sink until a `flush`. It fails with `WriteFailed`,
     /// only if the sink has failed: then the sink took a prefix of all bytes put, and each later call fails too.
     pub fn put(&mut self, piece: &[u8]) -> Result<(), Fault>
-        ensures put { OnOk result (Appends self.old.output.put self.new.output.put piece.now) }
+        ensures put { OnOk result (self.new.output.put ≡ self.old.output.put ++ piece.now) }
         ensures block { OnOk result (HoldsBlock self.new.output.took self.new.output.put) }
         ensures front { OnErr result (IsPrefixOf self.new.output.took self.old.output.put piece.now) }
         ensures grows { Grows self.old.output.took self.new.output.took }
@@ -155,8 +153,8 @@ impl<K: Sink> Out<K> {
     /// Hands all bytes put to the sink, and flushes it. After an `Ok` the sink has taken them. It fails as [`Out::put`]
     /// does.
     pub fn flush(&mut self) -> Result<(), Fault>
-        ensures put { OnOk result (Keeps self.old.output.put self.new.output.put) }
-        ensures taken { OnOk result (Keeps self.new.output.put self.new.output.took) }
+        ensures put { OnOk result (self.new.output.put ≡ self.old.output.put) }
+        ensures taken { OnOk result (self.new.output.took ≡ self.new.output.put) }
         ensures flushed { OnOk result (self.new.output.sink_is_flushed ≡ true) }
         ensures front { OnErr result (IsPrefixOf self.new.output.took self.old.output.put []) }
         ensures grows { Grows self.old.output.took self.new.output.took }
@@ -198,7 +196,7 @@ impl<K: Sink> Out<K> {
 // full blocks, as long as it takes each in full.
 #[cold]
 #[inline(never)]
-#[tactic(auto, using(crate::proofs::lemmas::Writer::always_err, crate::proofs::lemmas::Writer::front_filled, crate::proofs::lemmas::Writer::front_over, crate::proofs::Std::take_rest, crate::proofs::lemmas::Writer::put_over))]
+#[tactic(auto, using(crate::proofs::Std::take_rest, crate::proofs::lemmas::Writer::put_over))]
 fn put_blocks<K: Sink>(
     sink: &mut K,
     held: &mut WriteBuffer,
@@ -206,11 +204,10 @@ fn put_blocks<K: Sink>(
 ) -> Result<(), DeviceFailed>
     requires fits { length held.old ≤ block_size }
     requires across { block_size < length held.old + length piece.now }
-    ensures put { OnOk result (Appends (append_known (K.took sink.old) held.old)
-        (append_known (K.took sink.new) held.new) piece.now) }
+    ensures put { OnOk result (K.took sink.new ++ held.new ≡ (K.took sink.old ++ held.old) ++ piece.now) }
     ensures block { length held.new ≤ block_size }
     ensures front { OnErr result
-        (IsPrefixOf (K.took sink.new) (append_known (K.took sink.old) held.old) piece.now) }
+        (IsPrefixOf (K.took sink.new) (K.took sink.old ++ held.old) piece.now) }
     ensures grows { Grows (K.took sink.old) (K.took sink.new) }
     ensures served { OnOk result (K.has_failed sink.new ≡ K.has_failed sink.old) }
     ensures failed { OnErr result ((K.has_failed sink.new ≡ true) × (K.last_failed sink.new ≡ true)) }
@@ -227,7 +224,7 @@ fn put_blocks<K: Sink>(
 
 // Hands on the bytes that are held back. If the sink fails they are lost, and never sent again.
 fn send<K: Sink>(sink: &mut K, held: &mut WriteBuffer) -> Result<(), DeviceFailed>
-    ensures whole { OnOk result (Appends (K.took sink.old) (K.took sink.new) held.old) }
+    ensures whole { OnOk result (K.took sink.new ≡ K.took sink.old ++ held.old) }
     ensures empty { held.new ≡ [] }
     ensures front { OnErr result (IsPrefixOf (K.took sink.new) (K.took sink.old) held.old) }
     ensures grows { Grows (K.took sink.old) (K.took sink.new) }
@@ -240,9 +237,8 @@ fn send<K: Sink>(sink: &mut K, held: &mut WriteBuffer) -> Result<(), DeviceFaile
 }
 
 // Hands a whole piece to the sink, by as many writes as it takes.
-#[tactic(auto, using(crate::proofs::lemmas::Writer::always_err, crate::proofs::lemmas::Writer::front_part))]
 fn write_whole<K: Sink>(sink: &mut K, piece: &[u8]) -> Result<(), DeviceFailed>
-    ensures whole { OnOk result (Appends (K.took sink.old) (K.took sink.new) piece.now) }
+    ensures whole { OnOk result (K.took sink.new ≡ K.took sink.old ++ piece.now) }
     ensures front { OnErr result (IsPrefixOf (K.took sink.new) (K.took sink.old) piece.now) }
     ensures grows { Grows (K.took sink.old) (K.took sink.new) }
     ensures served { OnOk result (K.has_failed sink.new ≡ K.has_failed sink.old) }

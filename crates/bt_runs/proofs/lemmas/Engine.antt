@@ -66,7 +66,9 @@ module _ {E : Type 0} {rule : RuleDef E} {old : E} (fits : (r : Feature) → Fit
     module _ {mid : E} {through : Output} (put : Grown out first through) (lines_are : (r : Feature) → r.chrom ≡ chrom → rule.lines old r ≡ first ++ rule.lines mid r)
         (has_so : (r : Feature) → r.chrom ≡ chrom → (new : E) → rule.has mid r new → rule.has old r new) (wants_so : (r : Feature) → r.chrom ≡ chrom → rule.engine.wants mid r → rule.engine.wants old r) where
       does_so : (r : Feature) → r.chrom ≡ chrom → (result : Result (Unit {0}) Fault) (next : E) (later : Output) → Does rule mid r through result next later → Does rule old r out result next later
-      does_so r at result next later d = grind (arith, grown_more, fails_then)
+      does_so r at (Ok done) next later d = (has_so r at next d.0, rw (lines_are r at) (grown_more out through later first (rule.lines mid r) put d.1))
+      does_so r at (Err fault) next later (inl p) = inl (rw (lines_are r at) (fails_then out through later first (rule.lines mid r) (fault_value fault) put p))
+      does_so r at (Err fault) next later (inr p) = inr (p.0, (wants_so r at p.1.0, rw (lines_are r at) (grown_more out through later first (rule.lines mid r) put p.1.1)))
 
       -- it goes on as another one
       pub enters : EnterAnswers rule old chrom out (Ok tt) mid through

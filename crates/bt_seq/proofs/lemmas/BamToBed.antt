@@ -25,11 +25,16 @@ module _ (with_cigar : Bool) (a : Alignment) where
 
   -- name and tail were cut off before the CIGAR
   pub read_cut : (piece : List ℕ) (old new : Output) (fault : FaultValue) → piece ≡ marks a.first a.last ++ quality_text with_cigar a → FailsToPut old (a.name ++ piece) fault new → FailsToPut old (a.name ++ line_tail with_cigar a) fault new
-  read_cut piece old new fault e p = grind (arith, read_parts, fails_before)
+  read_cut piece old new fault e p =
+      subst (λ (l : List ℕ). FailsToPut old l fault new) read_parts
+      (fails_before old new read_head (text_if with_cigar (a.cigar ++ codes "\n")) fault (subst (λ (l : List ℕ). FailsToPut old (a.name ++ l) fault new) e p))
 
   pub read_puts : {A : Type 0} (piece : List ℕ) (old mid new : Output) (result : Result A Fault) → piece ≡ marks a.first a.last ++ quality_text with_cigar a → with_cigar ≡ true
       → PutsAll old (a.name ++ piece) mid → Puts mid (a.cigar ++ codes "\n") result new → Puts old (a.name ++ line_tail with_cigar a) result new
-  read_puts piece old mid new result e asked p q = grind (arith, read_parts, puts_more)
+  read_puts piece old mid new result e asked p q =
+      let last : a.cigar ++ codes "\n" ≡ text_if with_cigar (a.cigar ++ codes "\n") = ap (λ (b : Bool). text_if b (a.cigar ++ codes "\n")) (sym asked) in
+      subst (λ (l : List ℕ). Puts old l result new) (ap (λ l. read_head ++ l) last ∙ read_parts)
+      (puts_more old mid new read_head (a.cigar ++ codes "\n") result (subst (λ (l : List ℕ). PutsAll old (a.name ++ l) mid) e p) q)
 
   -- the line was cut off in one of its pieces
   module _ (s : Span) (o : Output) (fault : FaultValue) where
@@ -59,7 +64,8 @@ module _ (with_cigar : Bool) (a : Alignment) where
   one_more done s = flat_map-append (bed_line with_cigar a) done (s ∷ []) ∙ ap (λ l. lines_of done ++ l) (append-nil (bed_line with_cigar a s))
 
   pub grown_line : (done : List Span) (s : Span) (old mid new : Output) → Grown old (lines_of done) mid → PutsAll mid (bed_line with_cigar a s) new → Grown old (lines_of (done ++ s ∷ [])) new
-  grown_line done s old mid new p q = grind (arith, (one_more done s), (grown_more old mid new (lines_of done) (bed_line with_cigar a s) p (grown_all mid new (bed_line with_cigar a s) (line_has_bytes s) q)))
+  grown_line done s old mid new p q =
+      rw (one_more done s) (grown_more old mid new (lines_of done) (bed_line with_cigar a s) p (grown_all mid new (bed_line with_cigar a s) (line_has_bytes s) q))
 
   -- one of them was cut off
   pub cut_line : (done : List Span) (s : Span) (rest all : List Span) (old mid new : Output) (fault : FaultValue) → done ++ s ∷ rest ≡ all → Grown old (lines_of done) mid → FailsToPut mid (bed_line with_cigar a s) fault new

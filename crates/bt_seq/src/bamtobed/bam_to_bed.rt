@@ -92,7 +92,7 @@ fn put_lines<K: Sink>(
 }
 
 // Puts the line of each block of an alignment that is cut at each N.
-#[tactic(auto, using(std::proofs::lemmas::Result::err_from_is_err_and, crate::proofs::lemmas::BamToBed::cut_line))]
+#[tactic(auto, using(std::proofs::lemmas::Result::err_from_is_err_and))]
 #[inline(never)]
 fn put_blocks<K: Sink>(sam: &SamRef<'_>, with_cigar: bool, out: &mut Out<K>) -> Result<(), Fault>
     ensures { Adds out.old.output (bed_lines true with_cigar (alignment_lent sam.now)) result out.new.output }

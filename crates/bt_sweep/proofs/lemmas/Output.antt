@@ -6,7 +6,7 @@ use Rattle.bt_sweep.specs.calls.Held.{AreRising, AreRisingFrom, StartBefore, Sta
 use Rattle.bt_lines.specs.calls.Names.{fault_value}
 use Rattle.bt_lines.specs.calls.Output.{Output, Adds, FailsToAdd, Grown, Puts}
 use Rattle.bt_lines.specs.declared.fault.Fault.{Fault}
-use Rattle.bt_lines.proofs.lemmas.Writer.{cut_off, fails_then, grown_more, adds_some}
+use Rattle.bt_lines.proofs.lemmas.Writer.{adds_more, cut_off, fails_then, grown_more, adds_some}
 use Rattle.bt_bed.proofs.lemmas.parse.NameLemmas.{name_eq}
 use Rattle.bt_sweep.specs.model.Hits.{is_hit, hits_among, shared_bases, strands_agree}
 use Rattle.bt_sweep.specs.declared.hits.hit_rule.HitRule.{HitRule}
@@ -196,9 +196,6 @@ lines_append : (a : Feature) (free : ℕ) (xs ys : List Feature) → lines_befor
 lines_append a free [] ys = refl
 lines_append a free (x ∷ xs) ys = grind (arith, (lines_append a (max free x.stop) xs ys), append_assoc)
 
-adds_after : {A : Type 0} (r : Result A Fault) (old mid new : Output) (before after : List ℕ) → Grown old before mid → Adds mid after r new → Adds old (before ++ after) r new
-adds_after r old mid new before after grown adds = grind (arith, grown_more, fails_then)
-
 module _ (rule : HitRule) (a : Feature) (held : List Feature) where
   abbrev found_to : ℕ → List Feature
   found_to i = hits_among rule a (take i held)
@@ -245,7 +242,9 @@ module _ (rule : HitRule) (a : Feature) (held : List Feature) where
   -- the last piece
   pub pieces_end : {A : Type 0} (r : Result A Fault) {i free : ℕ} {old mid : Output} (new : Output) → length held ≤ i → free ≡ free_after a.start (found_to i) → AreRising held
       → Grown old (before_to i) mid → Adds mid (gap_lines a free a.stop) r new → Adds old (flat_map (piece_line a) (pieces a (hits_among rule a held))) r new
-  pieces_end r {i} {free} {old} {mid} new past reached rises so_far here = grind (arith, (take_whole held i past), (walked rule a held rises), (adds_after r old mid new (before_to i) (gap_lines a free a.stop) so_far here))
+  pieces_end r {i} {free} {old} {mid} new past reached rises so_far here =
+      let all : before_to i ++ gap_lines a free a.stop ≡ flat_map (piece_line a) (pieces a (hits_among rule a held)) = grind (arith, (take_whole held i past), (walked rule a held rises)) in
+      subst (λ (l : List ℕ). Adds old l r new) all (adds_more old mid new (before_to i) (gap_lines a free a.stop) r so_far here)
 
 -- Lemmas on the lines of a record.
 

@@ -67,10 +67,6 @@ abbrev pub TellsDevice : Bool → Bool → FaultValue → Type 0
 TellsDevice sink_failed last_failed fault =
     ((fault ≡ write_failed) × (sink_failed ≡ true) × (last_failed ≡ true)) ⊎ (fault ≡ no_memory)
 
--- the bytes put are known, and at least this many
-abbrev pub IsPutTo : ℕ → Option (List ℕ) → Type 0
-IsPutTo size put = (bytes : List ℕ) × (put ≡ Some bytes) × (size ≤ length bytes)
-
 -- a fault is reported, and it isn't a failed write
 abbrev pub IsFaultButWrite : Option FaultValue → Type 0
 IsFaultButWrite fault = (fault ≢ None) × (fault ≢ Some write_failed)
@@ -84,22 +80,20 @@ IsWithin told text n = (told ≡ false) ⊎ (n ≤ length (text_lines text))
 -- most a block. None of these is at fault: so if a line is, n is at most its number. Unless a write failed, all
 -- of it was put, and nothing more if a fault stopped the run. `Beside` says how far another input was read.
 pub record ReadsNoFurther (n : ℕ) (Beside : Type 0) (faults : List TextLine → Option FaultValue)
-    (settles : List TextLine → List ℕ) (text handed before : List ℕ)
-    (took : Option (List ℕ)) (WriteFailed Stopped : Type 0) (put : Option (List ℕ)) : Type 0 where
+    (settles : List TextLine → List ℕ) (text handed before took : List ℕ) (WriteFailed Stopped : Type 0)
+    (put : List ℕ) : Type 0 where
   pub some : 1 ≤ n
   pub faultless : faults (take (n - 1) (text_lines text)) ≡ None
   pub read : length handed ≤ bytes_in (take n (text_lines text)) + block_size
-  pub settled : IfSome took (λ taken.
-      length (before ++ settles (take (n - 1) (text_lines text))) ≤ length taken + block_size)
-  pub kept : WriteFailed
-      ⊎ IsPutTo (length (before ++ settles (take (n - 1) (text_lines text)))) put
-  pub exact : Stopped → put ≡ Some (before ++ settles (take (n - 1) (text_lines text)))
+  pub settled : length (before ++ settles (take (n - 1) (text_lines text))) ≤ length took + block_size
+  pub kept : WriteFailed ⊎ (length (before ++ settles (take (n - 1) (text_lines text))) ≤ length put)
+  pub exact : Stopped → put ≡ before ++ settles (take (n - 1) (text_lines text))
   pub beside : Beside
 
 -- the report is what came: its fault, and its output after what was put before
 abbrev pub IsReported : Report → List ℕ → Option FaultValue → Output → Type 0
 IsReported report before fault grown =
-    (fault ≡ report.fault) × (grown.put ≡ Some (before ++ report.output))
+    (fault ≡ report.fault) × (grown.put ≡ before ++ report.output)
 
 -- no failed read is reported
 abbrev pub TellsNoRead : Option FaultValue → Type 0
@@ -165,23 +159,20 @@ module _ {A B : Type 0} (source_a : Source A) (source_b : Source B) (behaviour :
     pub two : Option InputRead
     pub two_reads : ReadsSoIf source_b second two second_after
     -- no write and no growth failed: the report on what was handed over, also if a read failed
-    pub whole : (handed : Handed) (others : Option Handed) (before : List ℕ) → CameOf one handed
-        → OfBoth CameOf two others → out.put ≡ Some before
+    pub whole : (handed : Handed) (others : Option Handed) → CameOf one handed → OfBoth CameOf two others
         → fault ≢ Some write_failed → fault ≢ Some no_memory
-        → IsReported (behaviour.report handed others) before fault grown
+        → IsReported (behaviour.report handed others) out.put fault grown
     -- no device's fault is reported: the report on the whole texts
-    pub told : (handed : Handed) (others : Option Handed) (before : List ℕ) → MayHold one handed
-        → OfBoth MayHold two others
-        → out.put ≡ Some before → IsOfInput fault → IsReported (behaviour.report handed others) before fault grown
+    pub told : (handed : Handed) (others : Option Handed) → MayHold one handed → OfBoth MayHold two others
+        → IsOfInput fault → IsReported (behaviour.report handed others) out.put fault grown
     -- if a write failed: the sink took a prefix of the report's output
-    pub cut : fault ≡ Some write_failed → (handed : Handed) (others : Option Handed) (before : List ℕ)
-        → MayHold one handed → OfBoth MayHold two others → out.put ≡ Some before → (front : List ℕ) × (rest : List ℕ)
-        × ((behaviour.report handed others).output ≡ front ++ rest)
-        × IsPrefixOf grown.took (Some (before ++ front)) []
+    pub cut : fault ≡ Some write_failed → (handed : Handed) (others : Option Handed)
+        → MayHold one handed → OfBoth MayHold two others → (front : List ℕ) × (rest : List ℕ)
+        × ((behaviour.report handed others).output ≡ front ++ rest) × IsPrefixOf grown.took out.put front
     -- whatever else fails: a prefix of the report's output was put
-    pub kept : fault ≢ Some write_failed → (handed : Handed) (others : Option Handed) (before : List ℕ)
-        → MayHold one handed → OfBoth MayHold two others → out.put ≡ Some before → (front : List ℕ) × (rest : List ℕ)
-        × ((behaviour.report handed others).output ≡ front ++ rest) × (grown.put ≡ Some (before ++ front))
+    pub kept : fault ≢ Some write_failed → (handed : Handed) (others : Option Handed)
+        → MayHold one handed → OfBoth MayHold two others → (front : List ℕ) × (rest : List ℕ)
+        × ((behaviour.report handed others).output ≡ front ++ rest) × (grown.put ≡ out.put ++ front)
     pub grows : Grows out.took grown.took
     -- without a fault the inputs were read to their ends
     pub ended : fault ≡ None → (one.told ≡ true) × IsReadToEnd two
@@ -192,11 +183,10 @@ module _ {A B : Type 0} (source_a : Source A) (source_b : Source B) (behaviour :
     -- all writes served if no failed write is reported
     pub no_failed_write : fault ≢ Some write_failed → grown.sink_has_failed ≡ out.sink_has_failed
     -- how far the inputs were read, whatever happened, and whatever follows
-    pub near : (n : ℕ) × ((handed : Handed) (others : Option Handed) (before taken : List ℕ) → MayHold one handed
-        → OfBoth MayHold two others → out.put ≡ Some before → out.took ≡ Some taken
-        → ReadsNoFurther n (IsWithin one.told handed.text n
+    pub near : (n : ℕ) × ((handed : Handed) (others : Option Handed) → MayHold one handed
+        → OfBoth MayHold two others → ReadsNoFurther n (IsWithin one.told handed.text n
         → HandsUpTo (behaviour.reaches others (take n (text_lines handed.text)) + block_size) two)
-        behaviour.faults (behaviour.settles others) handed.text one.bytes before grown.took
+        behaviour.faults (behaviour.settles others) handed.text one.bytes out.put grown.took
         (grown.has_failed ≡ true) (IsFaultButWrite fault) grown.put)
     -- what the fault may be
     pub named : (told : FaultValue) → fault ≡ Some told
@@ -264,22 +254,20 @@ module _ {G A B K : Type 0} (source_g : Source G) (source_a : Source A) (source_
     -- If the sink works and no growth is refused, the fault reported
     -- and the bytes written are those of the report on what the inputs handed over. That is so also if a
     -- read failed or an input passes 2^63 - 1 bytes.
-    pub whole : (inputs : Inputs) (before : List ℕ) → InputsCame read inputs
-        → sink.took out ≡ Some before → sink.has_failed out_after ≡ false → fault ≢ Some no_memory
+    pub whole : (inputs : Inputs) → InputsCame read inputs
+        → sink.has_failed out_after ≡ false → fault ≢ Some no_memory
         → (fault ≡ (report_of command inputs).fault)
-        × (sink.took out_after ≡ Some (before ++ (report_of command inputs).output))
+        × (sink.took out_after ≡ sink.took out ++ (report_of command inputs).output)
     -- Whether devices fail or not: if the run ends without a
     -- fault, or tells a line's, that fault and the bytes written are
     -- those of the report on the whole texts.
-    pub told : (inputs : Inputs) (before : List ℕ) → InputsMayHold read inputs
-        → sink.took out ≡ Some before → IsOfInput fault
+    pub told : (inputs : Inputs) → InputsMayHold read inputs → IsOfInput fault
         → (fault ≡ (report_of command inputs).fault)
-        × (sink.took out_after ≡ Some (before ++ (report_of command inputs).output))
+        × (sink.took out_after ≡ sink.took out ++ (report_of command inputs).output)
     -- Whatever read, write or growth fails, what was written is a prefix of the
     -- report's output for the whole texts, what wasn't handed over of them included.
-    pub prefix : (inputs : Inputs) (before : List ℕ) → InputsMayHold read inputs
-        → sink.took out ≡ Some before
-        → (prefix : List ℕ) × (rest : List ℕ) × (sink.took out_after ≡ Some (before ++ prefix))
+    pub prefix : (inputs : Inputs) → InputsMayHold read inputs
+        → (prefix : List ℕ) × (rest : List ℕ) × (sink.took out_after ≡ sink.took out ++ prefix)
         × ((report_of command inputs).output ≡ prefix ++ rest)
     -- However the run ends, there is an n, the same whatever follows. The first input handed over at
     -- most its first n lines and a block. What its first n - 1 lines settle was written, except at
@@ -288,14 +276,13 @@ module _ {G A B K : Type 0} (source_g : Source G) (source_a : Source A) (source_
     -- except for a block. If the first input's end wasn't reported, or it has an n-th line, the
     -- second handed over at most what those n lines need and a block. So if it handed over more, n is
     -- past the last line, no line of the first input is at fault, and all of them were settled.
-    pub near : (n : ℕ) × ((inputs : Inputs) (before : List ℕ) → InputsMayHold read inputs
-        → sink.took out ≡ Some before
+    pub near : (n : ℕ) × ((inputs : Inputs) → InputsMayHold read inputs
         → ReadsNoFurther n (IsWithin read.first.told inputs.first.text n
         → HandsUpTo ((behaviour_on command (chromosomes_of inputs.genome)).reaches
         inputs.second (take n (text_lines inputs.first.text)) + block_size) read.second)
         (behaviour_on command (chromosomes_of inputs.genome)).faults
         ((behaviour_on command (chromosomes_of inputs.genome)).settles inputs.second) inputs.first.text
-        read.first.bytes before (sink.took out_after) (fault ≡ Some write_failed)
+        read.first.bytes (sink.took out) (sink.took out_after) (fault ≡ Some write_failed)
         (IsFaultButWrite fault) (sink.took out_after))
     -- A run that ends without a fault has read each input to its end.
     pub ended : fault ≡ None → IsReadToEnd read.genome × (read.first.told ≡ true) × IsReadToEnd read.second
@@ -338,18 +325,17 @@ module _ {G A B K : Type 0} (source_g : Source G) (source_a : Source A) (source_
 module _ {G A B K : Type 0} (source_g : Source G) (source_a : Source A) (source_b : Source B)
     (sink : Sink K) where
   -- If a plan was run, these whole texts came of its inputs, the sink had taken nothing before and
-  -- took these bytes, and no growth was refused, then those bytes, the line that tells the fault and
+  -- didn't fail, and no growth was refused, then the bytes that it took, the line that tells the fault and
   -- the exit status are those of the report on the words and the texts.
   abbrev pub ShowsReport : Type 0
   ShowsReport =
       (words : List Word) (plan : PlanSeen) (genome : Option G) (first : A) (second : Option B)
       (out : K) (fault : Option FaultValue) (genome_after : Option G) (first_after : A)
       (second_after : Option B) (out_after : K)
-      (genome_text first_text second_text bytes : List ℕ) → options words ≡ Ok plan
+      (genome_text first_text second_text : List ℕ) → options words ≡ Ok plan
       → (runs : Runs source_g source_a source_b sink
       plan.command genome first second out fault genome_after first_after second_after out_after)
       → InputsCame runs.read (texts_of plan genome_text first_text second_text)
-      → sink.took out ≡ Some [] → sink.has_failed out_after ≡ false → fault ≢ Some no_memory
-      → sink.took out_after ≡ Some bytes
+      → sink.took out ≡ [] → sink.has_failed out_after ≡ false → fault ≢ Some no_memory
       → report words genome_text first_text second_text
-      ≡ seen_of plan (record { output = bytes; fault = fault })
+      ≡ seen_of plan (record { output = sink.took out_after; fault = fault })

@@ -1,5 +1,5 @@
 -- Loops over one reader.
-use Rattle.std.specs.Prelude.{◌≡◌, ℕ, suc, ◌+◌, ◌^◌, ◌<◌, ◌≤◌, ◌⊎◌, ⊤, All, true, List, [], ◌∷◌, ◌++◌, drop, length, map, Option, Some, None, IfSome, ◌≢◌, Result, Ok, Err, false}
+use Rattle.std.specs.Prelude.{◌≡◌, ℕ, suc, ◌+◌, ◌^◌, ◌<◌, ◌≤◌, ◌⊎◌, ⊤, All, true, List, [], ◌∷◌, ◌++◌, drop, length, map, Option, Some, None, ◌≢◌, Result, Ok, Err, false}
 use Rattle.bt_lines.specs.declared.device.Source.{Ghosts as Source}
 use Rattle.bt_lines.specs.model.Fault.{FaultValue, read_failed}
 use Rattle.bt_lines.specs.calls.Faults.{no_memory, write_failed}
@@ -22,13 +22,11 @@ use Rattle.bt_bed.specs.calls.Records.{below, order_in, view_of}
 use Rattle.bt_bed.specs.declared.order.ChromOrder.{Ghosts}
 use Rattle.bt_bed.specs.declared.read.batch.Batch.{Batch}
 use Rattle.bt_bed.specs.declared.read.records.Records.{Records}
-use Rattle.bt_tool.specs.calls.Run.{IsPutTo}
 use Rattle.std.specs.Option.{option_map_or}
 use Rattle.bt_seq.specs.model.Alignment.{Alignment, alignment_of, sam_format, is_sam_kind}
 use Rattle.bt_seq.specs.model.BedLines.{bed_lines}
 use Rattle.bt_seq.specs.calls.Sam.{Converting}
 use Rattle.bt_tool.specs.model.Written.{IsOneOf, alignment_lines}
-use Rattle.std.specs.Io.KnownBytes.{Keeps}
 
 -- What a reader of members has consumed, and why it stops.
 
@@ -170,13 +168,11 @@ module _ {S A State : Type 0} (device : Source S) where
 
 -- these lines were put after what was put before
 abbrev pub PutsLines : Output → List ℕ → Output → Type 0
-PutsLines old lines new =
-    (before : List ℕ) → old.put ≡ Some before → new.put ≡ Some (before ++ lines)
+PutsLines old lines new = new.put ≡ old.put ++ lines
 
 -- the sink took a prefix of what was put before and these lines, and failed
 pub record CutsLines (old : Output) (lines : List ℕ) (new : Output) : Type 0 where
-  pub front : (before : List ℕ) → old.put ≡ Some before
-      → IsPrefixOf new.took (Some (before ++ lines)) []
+  pub front : IsPrefixOf new.took old.put lines
   pub failed : new.has_failed ≡ true
   pub sink_failed : SinkFailed new
 
@@ -190,10 +186,8 @@ pub record HasPut (old : Output) (lines : List ℕ) (new : Output) : Type 0 wher
 -- of these bytes, put after what was put before, the sink took all but a block;
 -- and unless a write failed, all of them were put
 pub record TookButBlock (old : Output) (bytes : List ℕ) (new : Output) : Type 0 where
-  pub took : (before taken : List ℕ) → old.put ≡ Some before → old.took ≡ Some taken
-      → IfSome new.took (λ now. length (before ++ bytes) ≤ length now + block_size)
-  pub put : (new.has_failed ≡ true) ⊎ ((before : List ℕ) → old.put ≡ Some before
-      → IsPutTo (length (before ++ bytes)) new.put)
+  pub took : length (old.put ++ bytes) ≤ length new.took + block_size
+  pub put : (new.has_failed ≡ true) ⊎ (length (old.put ++ bytes) ≤ length new.put)
 
 module _ {S A State : Type 0} (device : Source S) where
   -- a reader of members that has given nothing yet
@@ -327,7 +321,7 @@ pub record FlushesAll (old : Output) (fault : Option FaultValue) (answer : Optio
     (new : Output) : Type 0 where
   pub was : fault ≢ Some write_failed
   pub same_fault : answer ≡ fault
-  pub taken : Keeps old.put new.took
+  pub taken : new.took ≡ old.put
   pub was_served : old.has_failed ≡ false
   pub sink_served : new.sink_has_failed ≡ old.sink_has_failed
 

@@ -1,6 +1,6 @@
 //! Inputs and outputs that fail at each byte.
 
-ghost use Rattle.std.specs.Prelude.{None, true};
+ghost use Rattle.std.specs.Prelude.{true};
 
 use self::runs::{
     ALIGNMENTS, DEPTHS, GAPS, INTERSECT_FAILS, INTERSECTED, MASKED, MASKED_HEADERS, MERGE_FAILS,
@@ -193,7 +193,7 @@ struct FlushFails {
 }
 
 impl Sink for FlushFails {
-    ghost took = { λ _. None };
+    ghost took = { λ s. s.bytes.items };
 
     ghost has_failed = { λ s. s.has_failed };
 

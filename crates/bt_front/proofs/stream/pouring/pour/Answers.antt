@@ -1,6 +1,5 @@
-use Rattle.std.proofs.Common.{[], ◌++◌, append_assoc, sym, take, arith, ap}
+use Rattle.std.proofs.Common.{[], ◌++◌, ◌∙◌, append_assoc, take, arith, ap}
 use Rattle.std.proofs.lemmas.List.{append-nil}
-use Rattle.std.proofs.KnownBytes.{Appends-kept, Appends-trans}
 use Rattle.bt_lines.proofs.lemmas.reader.block.ReadsLemmas.{ends_later, ends_once}
 use Rattle.bt_lines.specs.calls.Device.{begun, gave}
 use Rattle.bt_front.proofs.stream.pouring.pour.Goals as goal
@@ -13,8 +12,9 @@ loop-preserved g c =
     let before = c.loop.invariant in (
       before.0 ++ take c.in-Ok.count c.read.new.block,
       gave before.1 _ _ (c.in-Ok.ensures.handed (omega (arith, c.read.auto.block))),
-      rw (sym (append_assoc c.args.kept.now before.0 (take c.in-Ok.count c.read.new.block)))
-          (Appends-trans _ _ _ _ _ before.2 c.in_ok-put-in-Ok.ensures.put),
+      c.in_ok-put-in-Ok.ensures.put ∙ ap (λ l. l ++ take c.in-Ok.count c.read.new.block) before.2
+          ∙ append_assoc c.args.taker.now.output.put (c.args.kept.now ++ before.0) (take c.in-Ok.count c.read.new.block)
+          ∙ ap (λ l. c.args.taker.now.output.put ++ l) (append_assoc c.args.kept.now before.0 (take c.in-Ok.count c.read.new.block)),
       c.in_ok-put-in-Ok.ensures.taken,
     )
 
@@ -23,5 +23,5 @@ returns-in-Ok-eq0-clause-all g c = record {
   bytes = c.loop.invariant.0 ++ take c.in-Ok-eq0.field-0 c.read.new.block;
   served = ends_later g.S.Source.is_read c.loop.invariant.1
       (ends_once g.S.Source.is_read _ _ _ (ap (λ count. take count c.read.new.block) c.in-Ok-eq0.field-0-test) (c.in-Ok-eq0.ensures.handed (omega (arith, c.read.auto.block))));
-  taken = rw c.in-Ok-eq0.field-0-test (rw (append-nil c.loop.invariant.0) (Appends-kept _ _ _ _ c.loop.invariant.2 c.loop.invariant.3));
+  taken = rw c.in-Ok-eq0.field-0-test (rw (append-nil c.loop.invariant.0) (c.loop.invariant.3 ∙ c.loop.invariant.2));
 }

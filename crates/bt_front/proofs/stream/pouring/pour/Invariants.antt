@@ -1,5 +1,4 @@
-use Rattle.std.proofs.Common.{ℕ, List, ◌++◌}
-use Rattle.std.specs.Io.KnownBytes.{Appends, Keeps}
+use Rattle.std.proofs.Common.{◌≡◌, ℕ, List, ◌++◌}
 use Rattle.bt_lines.specs.calls.Device.{ReadsOn}
 use Rattle.bt_front.proofs.stream.pouring.pour.Given as goal
 
@@ -7,5 +6,5 @@ use Rattle.bt_front.proofs.stream.pouring.pour.Given as goal
 abbrev pub invariant-loop : goal.invariant-loop
 invariant-loop g l =
     (bytes : List ℕ) × ReadsOn g.S.Source.is_read l.fn.stream bytes l.stream
-    × Appends l.fn.taker.output.put l.taker.output.put (l.kept ++ bytes)
-    × Keeps l.taker.output.put l.taker.output.took
+    × (l.taker.output.put ≡ l.fn.taker.output.put ++ (l.kept ++ bytes))
+    × (l.taker.output.took ≡ l.taker.output.put)

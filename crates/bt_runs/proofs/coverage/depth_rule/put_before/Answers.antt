@@ -2,11 +2,19 @@ use Rattle.bt_lines.proofs.Std.{◌≡◌, ◌+◌, Some, arith, min, err_from_i
 use Rattle.bt_lines.proofs.lemmas.Writer.{adds_lines, cut_lines}
 use Rattle.bt_bed.specs.calls.GenomeTable.{entries}
 use Rattle.bt_runs.specs.inside.Coverage.{place_seen, bare_of, depths_left}
+use Rattle.bt_runs.specs.inside.Walk.{entry_at}
+use Rattle.bt_runs.specs.model.Depth.{depth_line}
 use Rattle.bt_runs.proofs.lemmas.order.ByChromosome.{before_from, length_read, name_read}
 use Rattle.bt_runs.proofs.coverage.depth_rule.put_before.Goals as goal
 
 pub returns-in_err-put_rest : goal.returns-in_err-put_rest
-returns-in_err-put_rest g c = grind (arith, err_from_is_err_and, name_read, length_read, cut_lines)
+returns-in_err-put_rest g c =
+    let p = err_from_is_err_and c.from_residual.result c.from_residual.ensures.1 in
+    let table = entries c.args.chroms.now.genome.now in
+    let place = place_seen c.in-Some.reached c.args.held.now in
+    let named = name_read table place.rank c.name.result.now c.name.ensures in
+    let size = length_read table place.rank c.length.result c.length.ensures.is in
+    rw (p.1, p.2, c.in-Some.is) (cut_lines depth_line _ _ (depths_left c.args.chroms.now.zeros (entry_at table place.rank) place.known) _ _ (rw (named, size) c.in_err-put_rest.ensures.adds))
 
 pub returns : goal.returns
 returns g c =

@@ -1,7 +1,8 @@
 -- Lemmas on the steps of a masking engine.
-use Rattle.bt_lines.proofs.Std.{common_steps, rules, ◌≡◌, ℕ, nat_eq, Bool, true, false, cond, not, nat_lt, length, List, [], ◌∷◌, ◌++◌, arith, Some, None, Result, Ok, Err, refl, sym, ap, ◌∙◌, subst, inl, nat_tests, IsErr, IsOk, ◌+◌, ◌<◌, zero, suc, map, take, drop, slice_index_or, slice_set, ◌-◌, ◌≤◌, eqb, Fits, w8, ap₂, append-nil, append_assoc, length-append, Each1, chunk, put_chunk, sel_l, top, agree_below, agree_below_at, eqb_yes, T, drop-drop, drop_all, drop_at, length-drop, length-map, length-take-le, map-append, take-append-drop, take_at, take_rest, put_chunk_is, take-add, ◌==◌, take_while, take_all, All-head, All-tail, All-take, take_while-cons}
+use Rattle.bt_lines.proofs.Std.{common_steps, rules, ◌≡◌, ℕ, nat_eq, Bool, true, false, cond, not, nat_lt, length, List, [], ◌∷◌, ◌++◌, arith, Some, None, if◌then◌else◌, Result, Ok, Err, refl, sym, ap, ◌∙◌, subst, inl, nat_tests, IsErr, IsOk, ◌+◌, ◌<◌, zero, suc, map, take, drop, slice_index_or, slice_set, ◌-◌, ◌≤◌, eqb, Fits, w8, ap₂, append-nil, append_assoc, length-append, Each1, chunk, put_chunk, sel_l, top, agree_below, agree_below_at, eqb_yes, T, drop-drop, drop_all, drop_at, length-drop, length-map, length-take-le, map-append, take-append-drop, take_at, take_rest, put_chunk_is, take-add, ◌==◌, take_while, take_all, All-head, All-tail, All-take, take_while-cons}
 use Rattle.bt_bed.specs.model.Feature.{Feature}
-use Rattle.bt_lines.specs.calls.Output.{Output, Adds, Grown}
+use Rattle.bt_lines.specs.calls.Names.{fault_value}
+use Rattle.bt_lines.specs.calls.Output.{Output, Adds, FailsToAdd, Grown}
 use Rattle.bt_lines.specs.model.Lines.{end_bytes}
 use Rattle.bt_lines.specs.declared.fault.Fault.{Fault}
 use Rattle.bt_seq.proofs.lemmas.Sam.{none_masked}
@@ -20,6 +21,19 @@ pub wrote_given : {A : Type 0} (r : Result A Fault) (old new : Masking) (line : 
     → (IsOk r → new ≡ record old { waiting = None; want = Line }) → (IsErr r → new.want ≡ Nothing)
     → WritesGiven old line out r new grown
 wrote_given r old new line out grown none adds next stops = grind (arith, none_masked)
+
+-- the line that waits
+pub waiting_is : (waits : Bool) (waiting line : Waiting) → (if waits then Some waiting else None) ≡ Some line → waiting ≡ line
+waiting_is true waiting line e = cc
+waiting_is false waiting line e = cc
+
+-- it was written
+pub wrote_waiting : {A : Type 0} (r : Result A Fault) (old new : Masking) (line : Waiting) (bytes : List ℕ) (out grown : Output)
+    → bytes ≡ line_bytes old line → Adds out bytes r grown
+    → (IsOk r → new ≡ record old { waiting = None; want = Line }) → (IsErr r → new.want ≡ Nothing)
+    → WritesWaiting old line out r new grown
+wrote_waiting (Ok done) old new line bytes out grown is adds next stops = (next refl, subst (λ (l : List ℕ). Grown out l grown) is adds)
+wrote_waiting (Err fault) old new line bytes out grown is adds next stops = (stops refl, subst (λ (l : List ℕ). FailsToAdd out l (fault_value fault) grown) is adds)
 
 -- it was kept and then written
 pub wrote_kept : {A : Type 0} (r : Result A Fault) (old kept new : Masking) (line : Waiting) (out grown : Output)

@@ -1,5 +1,5 @@
 -- Lemmas on lines and records that are given to a masking engine together.
-use Rattle.bt_lines.proofs.Std.{common_steps, rules, ◌≡◌, ◌⊎◌, inl, inr, ℕ, ◌<◌, ◌≤◌, Bool, true, false, List, [], ◌∷◌, ◌++◌, length, append_assoc, Option, None, Some, Result, Ok, Err, refl, sym, ap, ◌∙◌, arith, flat_map, length-append}
+use Rattle.bt_lines.proofs.Std.{common_steps, rules, ◌≡◌, ◌⊎◌, inl, inr, ℕ, ◌<◌, ◌≤◌, Bool, true, false, false≢true, List, [], ◌∷◌, ◌++◌, length, append-nil, append_assoc, Option, None, Some, Result, Ok, Err, refl, sym, ap, ◌∙◌, arith, flat_map, length-append}
 use Rattle.bt_bed.specs.model.Feature.{Feature}
 use Rattle.bt_bed.specs.declared.read.cursor.Cursor.{Ghosts as Cursor}
 use Rattle.bt_bed.specs.declared.record.taken.Taken.{Taken}
@@ -25,27 +25,35 @@ use Rattle.bt_seq.specs.declared.mask.mask_how.MaskHow.{MaskHow}
 use Rattle.bt_seq.specs.declared.mask.MaskWant.{MaskWant}
 use Rattle.bt_seq.specs.declared.mask.MaskWant.TheVariants.{Line, Bed, Nothing}
 
--- an output of which all bytes are known
-put_known : List ℕ → Output
-put_known bytes = record { put = Some bytes; took = Some bytes; has_failed = false; sink_has_failed = false; sink_last_failed = false; sink_is_flushed = false }
+-- an output that has put these bytes, all of which were taken
+all_taken : List ℕ → Output
+all_taken bytes = record { put = bytes; took = bytes; has_failed = false; sink_has_failed = false; sink_last_failed = false; sink_is_flushed = false }
 
-grown_known : (bytes : List ℕ) → Grown (put_known []) bytes (put_known bytes)
-unfolding put_known
-grown_known bytes = search rules
+grown_taken : (bytes : List ℕ) → Grown (all_taken []) bytes (all_taken bytes)
+unfolding all_taken
+grown_taken bytes = record {
+  appends = refl;
+  block = λ block. ([], sym (append-nil bytes), omega arith);
+  grows = (bytes, refl);
+  served = refl;
+  sink_served = refl;
+  again = λ failed. absurd (false≢true failed);
+  nothing = λ none. ap all_taken none;
+}
 
-bytes_known : {bytes more : List ℕ} → Grown (put_known []) more (put_known bytes) → bytes ≡ more
-unfolding put_known
-bytes_known g = g.appends
+grown_bytes : {bytes more : List ℕ} → Grown (all_taken []) more (all_taken bytes) → bytes ≡ more
+unfolding all_taken
+grown_bytes g = g.appends
 
 none_waits : {how : MaskHow} {full : Bool} {stage : MaskStage} {m : Masking} → MaskMovesTo how full stage m → m.want ≡ Line → stage.inputs.waiting ≡ None
 none_waits {stage} stands wants = (wants_line stage.inputs.waiting stage.inputs.first_ended stage.inputs.second_ended (sym stands.stands.want_is ∙ wants)).0
 
 module _ (how : MaskHow) (full : Bool) where
   line_copied : (stage : MaskStage) (m : Masking) → MaskMovesTo how full stage m → m.want ≡ Line → (line : TextLine) → stays_as_given m line.text ≡ true
-      → TakesNextLine how full stage line (put_known []) (passed m line.text) (put_known (spelled line))
+      → TakesNextLine how full stage line (all_taken []) (passed m line.text) (all_taken (spelled line))
   line_copied stage m stands wants line stay =
-      gives_line how full stage m stands wants line (put_known []) (passed m line.text) (put_known (spelled line)) (Ok (tt {0}))
-      (passes_line (tt {0}) m (passed m line.text) line.number (record { text = line.text; ending = line.ending }) (put_known []) (put_known (spelled line)) (stay, refl, grown_known (spelled line)))
+      gives_line how full stage m stands wants line (all_taken []) (passed m line.text) (all_taken (spelled line)) (Ok (tt {0}))
+      (passes_line (tt {0}) m (passed m line.text) line.number (record { text = line.text; ending = line.ending }) (all_taken []) (all_taken (spelled line)) (stay, refl, grown_taken (spelled line)))
 
   -- where lines that are copied through lead to
   pub record LinesCopied (stage : MaskStage) (m : Masking) (lines : List TextLine) : Type 0 where
@@ -59,7 +67,7 @@ module _ (how : MaskHow) (full : Bool) where
   lines_copied (line ∷ lines) stage m stands wants stay =
       let one = line_copied stage m stands wants line stay.0 in
       let mid = with_line stage one.item in
-      let first : GoesOn how full stage (line ∷ []) [] mid (spelled line) = rw (bytes_known one.puts) (line_goes how full stage line one.item (none_waits stands wants) one.says) in
+      let first : GoesOn how full stage (line ∷ []) [] mid (spelled line) = rw (grown_bytes one.puts) (line_goes how full stage line one.item (none_waits stands wants) one.says) in
       let rest = lines_copied lines mid (passed m line.text) one.stands refl stay.1 in
       record { now = rest.now; goes = goes_more first rest.goes; stands = rest.stands; ahead = rest.ahead ∙ (grind arith) }
 

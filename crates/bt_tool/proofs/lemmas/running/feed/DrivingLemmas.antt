@@ -1,5 +1,5 @@
 -- Lemmas on driving an engine, from the records that it takes to the report on what its input hands over.
-use Rattle.bt_lines.proofs.Std.{false, ◌≡◌, ℕ, suc, ◌-◌, true, List, [], ◌++◌, take, Option, None, Some, Ok, refl, sym, ap, ◌∙◌, subst, append-nil, append_assoc, arith, inl, inr, ◌⊎◌, ◌≢◌, ⊤, map-append, Appends, Bool, ◌∷◌, flat_map-append, Appends-nil}
+use Rattle.bt_lines.proofs.Std.{false, ◌≡◌, ℕ, suc, ◌-◌, true, List, [], ◌++◌, take, Option, None, Some, Ok, refl, sym, ap, ◌∙◌, subst, append-nil, append_assoc, arith, inl, inr, ◌⊎◌, ◌≢◌, ⊤, map-append, Bool, ◌∷◌, flat_map-append}
 use Rattle.bt_lines.specs.declared.device.Source.{Ghosts as Source}
 use Rattle.bt_lines.proofs.lemmas.reader.block.ReadsLemmas.{some_is}
 use Rattle.bt_lines.proofs.lemmas.Writer.{grows_both}
@@ -118,11 +118,11 @@ module _ {S A State : Type 0} {written : Written A} {Taken : List A → Type 0} 
       begins_by (items_in (good_of handed)) (member_items past) (member_items here.0) (good_of handed).fault (ap member_items here.1 ∙ items_both past here.0) taken
 
   -- how far the input was read
-  near_by : {handed : Handed} {before took : List ℕ} → MayHold one handed → out.put ≡ Some before → out.took ≡ Some took
+  near_by : {handed : Handed} → MayHold one handed
       → {past : List (Member A)} (read : IsReadFor device old bytes past past new) → {grown : Output} → TookButBlock out (written.settled (member_items past)) grown
       → (Stopped : Type 0) → (Stopped → PutsLines out (written.settled (member_items past)) grown)
-      → ReadsNoFurther (suc read.to.count) (IsWithin one.told handed.text (suc read.to.count) → ⊤) (λ lines. (good format First lines).fault) (members_settle written format) handed.text bytes before grown.took (grown.has_failed ≡ true) Stopped grown.put
-  near_by {before = before} {took = took} holds put known {past = past} read {grown = grown} kept Stopped exact =
+      → ReadsNoFurther (suc read.to.count) (IsWithin one.told handed.text (suc read.to.count) → ⊤) (λ lines. (good format First lines).fault) (members_settle written format) handed.text bytes out.put grown.took (grown.has_failed ≡ true) Stopped grown.put
+  near_by holds {past = past} read {grown = grown} kept Stopped exact =
       let text = bytes ++ holds.rest in
       let count = read.to.count in
       let b = subst (λ (g : Good A). (rest : List (Member A)) × (g.members ≡ past ++ rest) × IsBeyond count (record { members = rest; fault = g.fault })) (driven.starts.good text) (read.to.behind holds.rest holds.follows) in
@@ -132,13 +132,13 @@ module _ {S A State : Type 0} {written : Written A} {Taken : List A → Type 0} 
       sym (ap (λ (g : Good A). written.settled (items_in g)) on_first) in
       let settled = subst (λ l. TookButBlock out l grown) on_lines kept in
       let less : suc count - 1 ≡ count = omega arith in
-      subst (λ (h : Handed). ReadsNoFurther (suc count) (IsWithin one.told h.text (suc count) → ⊤) (λ lines. (good format First lines).fault) (members_settle written format) h.text bytes before grown.took (grown.has_failed ≡ true) Stopped grown.put) (sym holds.is) (record {
+      subst (λ (h : Handed). ReadsNoFurther (suc count) (IsWithin one.told h.text (suc count) → ⊤) (λ lines. (good format First lines).fault) (members_settle written format) h.text bytes out.put grown.took (grown.has_failed ≡ true) Stopped grown.put) (sym holds.is) (record {
         some = omega arith;
         faultless = rw less (ap (λ (g : Good A). g.fault) on_first);
         read = handed_to device old driven.starts new driven.ended hands count holds.rest holds.follows read.to.near;
-        settled = rw less (settled.took before took put known);
-        kept = rw less (elim settled.put [ inl failed ↦ inl failed | inr kept ↦ inr (kept before put) ]);
-        exact = rw less (λ stops. exact stops before put ∙ ap (λ l. Some (before ++ l)) on_lines);
+        settled = rw less settled.took;
+        kept = rw less settled.put;
+        exact = rw less (λ stops. exact stops ∙ ap (λ l. out.put ++ l) on_lines);
         beside = λ within. tt;
       })
 
@@ -147,16 +147,16 @@ module _ {S A State : Type 0} {written : Written A} {Taken : List A → Type 0} 
     Cause past = FeedStopCause written.settled kinds Sorted device old out bytes past fault new grown
 
     -- the report, by what the fault of the input says of it
-    reported_by : (past : List (Member A)) (handed : Handed) (before : List ℕ) → Came one (Some fault) handed → out.put ≡ Some before
-        → Some fault ≢ Some write_failed → Some fault ≢ Some no_memory → Cause past → IsReported (report handed) before (Some fault) grown
-    reported_by past handed before came put write memory (inl taking) =
+    reported_by : (past : List (Member A)) (handed : Handed) → Came one (Some fault) handed
+        → Some fault ≢ Some write_failed → Some fault ≢ Some no_memory → Cause past → IsReported (report handed) out.put (Some fault) grown
+    reported_by past handed came write memory (inl taking) =
         elim taking.cause [
           | inl behind ↦
               let is = report_of handed past (Some fault) (says_fault device old driven.starts new driven.ended hands kinds past fault handed came driven.kept behind) in
-              (sym (ap (λ (r : Report). r.fault) is), taking.puts before put ∙ ap (λ (r : Report). Some (before ++ r.output)) (sym is))
+              (sym (ap (λ (r : Report). r.fault) is), taking.puts ∙ ap (λ (r : Report). out.put ++ r.output) (sym is))
           | inr lacks ↦ absurd (memory (ap Some lacks.is))
         ]
-    reported_by past handed before came put write memory (inr writing) = absurd (write (ap Some writing.is))
+    reported_by past handed came write memory (inr writing) = absurd (write (ap Some writing.is))
 
     puts_by : (past : List (Member A)) → Cause past → fault ≢ write_failed → PutsFront out (written.settled (member_items past)) grown
     puts_by past (inl taking) other = puts_front out (written.settled (member_items past)) grown taking.puts
@@ -196,22 +196,22 @@ module _ {S A State : Type 0} {written : Written A} {Taken : List A → Type 0} 
         one_reads = reads_so device old driven.starts new driven.ended hands;
         two = None;
         two_reads = tt;
-        whole = λ one two before reads others put write memory. reported_by device driven kinds Sorted out hands fault grown fed.past one before (inl reads) put write memory fed.cause;
-        told = λ one two before holds others put is. reported_by device driven kinds Sorted out hands fault grown fed.past one before (inr (is_whole holds is)) put is.no_write is.no_growth fed.cause;
-        cut = λ is one two before holds others put.
+        whole = λ one two reads others write memory. reported_by device driven kinds Sorted out hands fault grown fed.past one (inl reads) write memory fed.cause;
+        told = λ one two holds others is. reported_by device driven kinds Sorted out hands fault grown fed.past one (inr (is_whole holds is)) is.no_write is.no_growth fed.cause;
+        cut = λ is one two holds others.
             let more = begins_output device driven kinds Sorted out hands one fed.past holds fed.begins in
-            (written.settled (member_items fed.past), more.0, more.1, (cut_by device driven kinds Sorted out hands fault grown fed.past fed.cause (some_is fault write_failed is)).front before put);
-        kept = λ other one two before holds others put.
+            (written.settled (member_items fed.past), more.0, more.1, (cut_by device driven kinds Sorted out hands fault grown fed.past fed.cause (some_is fault write_failed is)).front);
+        kept = λ other one two holds others.
             let more = begins_output device driven kinds Sorted out hands one fed.past holds fed.begins in
             let part = puts_by device driven kinds Sorted out hands fault grown fed.past fed.cause (λ is. other (ap Some is)) in
-            (part.front, part.rest ++ more.0, more.1 ∙ ap (λ l. l ++ more.0) part.parts ∙ append_assoc part.front part.rest more.0, part.puts before put);
+            (part.front, part.rest ++ more.0, more.1 ∙ ap (λ l. l ++ more.0) part.parts ∙ append_assoc part.front part.rest more.0, part.puts);
         grows = fed.took.grows;
         ended = λ e. cc;
         served = λ e. cc;
         no_failed_write = λ other. no_failed_by device driven kinds Sorted out hands fault grown fed.past fed.cause (λ is. other (ap Some is));
         near = (
           suc fed.took.read.to.count,
-          λ one two before taken holds others put known. near_by device driven kinds Sorted out hands holds put known fed.took.read fed.took.kept
+          λ one two holds others. near_by device driven kinds Sorted out hands holds fed.took.read fed.took.kept
               (IsFaultButWrite (Some fault)) (λ stops. fed.exact (λ is. stops.1 (ap Some is))),
         );
         named = λ told e. subst (λ t. (TellsInput device kinds First (read device old driven.starts new driven.ended hands) last t ⊎ ⊥) ⊎ TellsDevice grown.sink_has_failed grown.sink_last_failed t) (some_is fault told e)
@@ -235,30 +235,30 @@ module _ {S A State : Type 0} {written : Written A} {Taken : List A → Type 0} 
     report_whole : (one : Handed) → MayHold all_read one → members_report written format one ≡ report_by written (member_items fed.past) None
     report_whole one holds = report_of device driven kinds Sorted out all_hands one fed.past None (of_text device driven kinds Sorted out all_hands holds (λ good. (good.members ≡ fed.past) × (good.fault ≡ None)) fed.whole)
 
-    near_end : (fault : Option FaultValue) → (IsFaultButWrite fault → ⊥) → (one : Handed) (two : Option Handed) (before taken : List ℕ) → MayHold all_read one → OfBoth MayHold None two → out.put ≡ Some before → out.took ≡ Some taken
-        → ReadsNoFurther (suc fed.took.read.to.count) (IsWithin all_read.told one.text (suc fed.took.read.to.count) → ⊤) (λ lines. (good format First lines).fault) (members_settle written format) one.text fed.took.bytes.0 before finished.took (finished.has_failed ≡ true) (IsFaultButWrite fault) finished.put
-    near_end fault never handed two before taken holds others put known =
-        near_by device driven kinds Sorted out all_hands holds put known fed.took.read
+    near_end : (fault : Option FaultValue) → (IsFaultButWrite fault → ⊥) → (one : Handed) (two : Option Handed) → MayHold all_read one → OfBoth MayHold None two
+        → ReadsNoFurther (suc fed.took.read.to.count) (IsWithin all_read.told one.text (suc fed.took.read.to.count) → ⊤) (λ lines. (good format First lines).fault) (members_settle written format) one.text fed.took.bytes.0 out.put finished.took (finished.has_failed ≡ true) (IsFaultButWrite fault) finished.put
+    near_end fault never handed two holds others =
+        near_by device driven kinds Sorted out all_hands holds fed.took.read
         (took_later out grown finished (written.settled (member_items fed.took.before)) fed.took.grows goes fed.took.kept) (IsFaultButWrite fault) (λ stops. absurd (never stops))
 
-    pub drives_all : (rest : List ℕ) → written.whole (member_items fed.past) ≡ written.settled (member_items fed.past) ++ rest → Appends grown.put finished.put rest → finished.sink_has_failed ≡ grown.sink_has_failed → WritesOne None finished
+    pub drives_all : (rest : List ℕ) → written.whole (member_items fed.past) ≡ written.settled (member_items fed.past) ++ rest → finished.put ≡ grown.put ++ rest → finished.sink_has_failed ≡ grown.sink_has_failed → WritesOne None finished
     drives_all rest is appends works =
-        let put_all : (before : List ℕ) → out.put ≡ Some before → finished.put ≡ Some (before ++ written.whole (member_items fed.past)) =
-        λ before put. text_grows grown.put finished.put before (written.settled (member_items fed.past)) rest (written.whole (member_items fed.past)) is appends (fed.puts before put) in
-        let ends : (other : Option FaultValue) (handed : Handed) (before : List ℕ) → Came all_read other handed → out.put ≡ Some before → IsReported (members_report written format handed) before None finished =
-        λ other handed before came put.
+        let put_all : finished.put ≡ out.put ++ written.whole (member_items fed.past) =
+        text_grows grown.put finished.put out.put (written.settled (member_items fed.past)) rest (written.whole (member_items fed.past)) is appends fed.puts in
+        let ends : (other : Option FaultValue) (handed : Handed) → Came all_read other handed → IsReported (members_report written format handed) out.put None finished =
+        λ other handed came.
         let all = report_all other handed came in
-        (sym (ap (λ r. r.fault) all), put_all before put ∙ ap (λ r. Some (before ++ r.output)) (sym all)) in
+        (sym (ap (λ r. r.fault) all), put_all ∙ ap (λ r. out.put ++ r.output) (sym all)) in
         record {
           one = all_read;
           one_reads = reads_so device old driven.starts new driven.ended all_hands;
           two = None;
           two_reads = tt;
-          whole = λ one two before reads others put write memory. ends None one before (inl reads) put;
-          told = λ one two before holds others put is. ends None one before (inr (is_whole holds is)) put;
+          whole = λ one two reads others write memory. ends None one (inl reads);
+          told = λ one two holds others is. ends None one (inr (is_whole holds is));
           cut = λ e. cc;
-          kept = λ other one two before holds others put.
-              (written.whole (member_items fed.past), [], ap (λ r. r.output) (report_whole one holds) ∙ sym (append-nil (written.whole (member_items fed.past))), put_all before put);
+          kept = λ other one two holds others.
+              (written.whole (member_items fed.past), [], ap (λ r. r.output) (report_whole one holds) ∙ sym (append-nil (written.whole (member_items fed.past))), put_all);
           grows = grows_both out.took grown.took finished.took fed.took.grows goes.took;
           ended = λ e. (fed.told, tt);
           served = λ e. (ap device.has_failed (sym driven.ended) ∙ fed.served ∙ ap device.has_failed driven.starts.source, tt);
@@ -275,13 +275,13 @@ module _ {S A State : Type 0} {written : Written A} {Taken : List A → Type 0} 
       one_reads = reads_so device old driven.starts new driven.ended all_hands;
       two = None;
       two_reads = tt;
-      whole = λ one two before reads others put write memory. absurd (write (ap Some is));
-      told = λ one two before holds others put of_input. absurd (of_input.no_write (ap Some is));
-      cut = λ e one two before holds others put. (
+      whole = λ one two reads others write memory. absurd (write (ap Some is));
+      told = λ one two holds others of_input. absurd (of_input.no_write (ap Some is));
+      cut = λ e one two holds others. (
         written.whole (member_items fed.past),
         [],
         ap (λ r. r.output) (report_whole one holds) ∙ sym (append-nil (written.whole (member_items fed.past))),
-        front_all finished.took grown.put before (written.settled (member_items fed.past)) rest (written.whole (member_items fed.past)) whole (fed.puts before put) front,
+        front_all finished.took grown.put out.put (written.settled (member_items fed.past)) rest (written.whole (member_items fed.past)) whole fed.puts front,
       );
       kept = λ other. absurd (other (ap Some is));
       grows = grows_both out.took grown.took finished.took fed.took.grows goes.took;
@@ -386,7 +386,11 @@ module _ {S : Type 0} (split cigar : Bool) (device : Source S) where
         -- what is settled with these members was put
         goes_with : (past : List (Member Alignment)) (bytes : List ℕ) (later : Output) → PassesMembers device (sam_reader old) past (sam_reader new) → lines_of (member_items past) ≡ lines_of (member_items g.past) ++ bytes → Grown grown bytes later
             → Going old out new later
-        goes_with past bytes later passes more writes = grind (arith, (put_more out grown later (lines_of (member_items g.past)) bytes g.fed.put writes))
+        goes_with past bytes later passes more writes = record {
+          past = past;
+          fed = record { passes = passes; put = rw more (put_more out grown later (lines_of (member_items g.past)) bytes g.fed.put writes) };
+          sound = sound g.sound;
+        }
 
         goes_by : (said : Option Alignment) (later : Output) → alignment_of line.text ≡ Ok said → Grown grown (option_map_or (bed_lines split cigar) said []) later → Going old out new later
         goes_by None later says writes =
@@ -395,7 +399,9 @@ module _ {S : Type 0} (split cigar : Bool) (device : Source S) where
 
         -- what it says was written
         pub going_line : {converting after : Converting} → converting.split ≡ split → converting.with_cigar ≡ cigar → {later : Output} → ((said : Option Alignment) × (alignment_of line.text ≡ Ok said) × Grown grown (option_map_or (bed_lines converting.split converting.with_cigar) said []) later × (after ≡ converting)) → Going old out new later
-        going_line same same_cigar written = grind (arith, goes_by)
+        going_line {converting} same same_cigar {later} written =
+            let are : bed_lines converting.split converting.with_cigar ≡ bed_lines split cigar = ap (λ s. bed_lines s converting.with_cigar) same ∙ ap (bed_lines split) same_cigar in
+            goes_by written.0 later written.1 (subst (λ (f : Alignment → List ℕ). Grown grown (option_map_or f written.0 []) later) are written.2)
 
 -- a line that was refused is no failed read
 pub refused_no_read : (input : Input) (line : TextLine) (out : Output) (fault : FaultValue) (grown : Output) → LineRefused input line out fault grown → (other : Input) (at : ℕ) → Some fault ≡ Some (read_failed other at) → ⊥
@@ -432,7 +438,7 @@ module _ {S : Type 0} (split cigar : Bool) {device : Source S} {first : S} {read
       pub writes_all : FeedsAll (alignment_lines converting.split converting.with_cigar) (IsOneOf is_sam_kind) (λ past. ⊤) device (λ past. ⊤) (sam_reader reader) out new grown → Writes None
       writes_all fed =
           let is = subst (λ (m : Converting). FeedsAll (alignment_lines m.split m.with_cigar) (IsOneOf is_sam_kind) (λ past. ⊤) device (λ past. ⊤) (sam_reader reader) out new grown) same fed in
-          drives_all device driven (IsOneOf is_sam_kind) (λ past. ⊤) out is (goes_same grown) [] (sym (append-nil _)) (Appends-nil grown.put) refl
+          drives_all device driven (IsOneOf is_sam_kind) (λ past. ⊤) out is (goes_same grown) [] (sym (append-nil _)) (sym (append-nil grown.put)) refl
 
       -- or it was read up to a fault
       pub writes_up_to : {fault : FaultValue} → (TellsNoRead (Some fault) → TellsNoRead (fault_kept new.below)) → FeedsUpTo (alignment_lines converting.split converting.with_cigar) (IsOneOf is_sam_kind) (λ past. ⊤) device (sam_reader reader) out fault new grown → Writes (Some fault)

@@ -1,5 +1,5 @@
 -- What was taken of a reader's members and written of them so far, whatever they are, and what is so when the reading stops. By it, feeding an engine with the records of a reader.
-use Rattle.bt_lines.proofs.Std.{common_steps, rules, ◌≡◌, ℕ, suc, ◌+◌, ◌<◌, ◌≤◌, true, List, [], ◌∷◌, ◌++◌, length, Option, None, Some, Result, Ok, Err, sym, ap, ◌∙◌, subst, append-nil, append_assoc, length-append, arith, inl, inr, ◌⊎◌, IfSome, map-append, All-head, All-nil, All-tail, Appends}
+use Rattle.bt_lines.proofs.Std.{rules, refl, ◌≡◌, ℕ, suc, ◌+◌, ◌<◌, ◌≤◌, true, List, [], ◌∷◌, ◌++◌, length, Option, None, Some, Result, Ok, Err, sym, ap, ◌∙◌, subst, append-nil, append_assoc, length-append, arith, inl, inr, ◌⊎◌, map-append, All-head, All-nil, All-tail}
 use Rattle.bt_lines.specs.declared.device.Source.{Ghosts as Source}
 use Rattle.bt_lines.proofs.lemmas.Writer.{grown_works, grows_nothing, grows_both}
 use Rattle.bt_lines.specs.model.Fault.{FaultValue}
@@ -33,19 +33,28 @@ use Rattle.bt_tool.proofs.lemmas.running.feed.WritingLemmas.{begins_with}
 use Rattle.bt_tool.proofs.lemmas.running.members.PassedLemmas.{said_in_order}
 
 -- a sink that took a prefix of the lines took a prefix of all
-pub front_all : (took : Option (List ℕ)) (put : Option (List ℕ)) (before done lines whole : List ℕ) → whole ≡ done ++ lines → put ≡ Some (before ++ done) → IsPrefixOf took put lines → IsPrefixOf took (Some (before ++ whole)) []
-front_all took put before done lines whole e p f = grind (arith, append_assoc, append-nil)
+pub front_all : (took put before done lines whole : List ℕ) → whole ≡ done ++ lines → put ≡ before ++ done → IsPrefixOf took put lines → IsPrefixOf took before whole
+unfolding IsPrefixOf
+front_all took put before done lines whole e p f = (f.0, f.1 ∙ ap (λ l. l ++ lines) p ∙ append_assoc before done lines ∙ ap (λ l. before ++ l) (sym e))
 
 pub works_both : (old mid new : Output) → WorksAsBefore old mid → WorksAsBefore mid new → WorksAsBefore old new
-works_both old mid new w more = grind (arith, (grows_both old.put mid.put new.put w.put more.put))
+works_both old mid new w more = record {
+  served = more.served ∙ w.served;
+  sink_served = more.sink_served ∙ w.sink_served;
+  put = grows_both old.put mid.put new.put w.put more.put;
+  block = λ block. more.block (w.block block);
+}
 
--- a known text grows by the lines
-pub text_grows : (old new : Option (List ℕ)) (before done lines whole : List ℕ) → whole ≡ done ++ lines → Appends old new lines → old ≡ Some (before ++ done) → new ≡ Some (before ++ whole)
-text_grows old new before done lines whole w p e = grind (arith, append_assoc)
+-- a text grows by the lines
+pub text_grows : (old new before done lines whole : List ℕ) → whole ≡ done ++ lines → new ≡ old ++ lines → old ≡ before ++ done → new ≡ before ++ whole
+text_grows old new before done lines whole w p e = p ∙ ap (λ l. l ++ lines) e ∙ append_assoc before done lines ∙ ap (λ l. before ++ l) (sym w)
 
-pub took_more_than : (first took more : Option (List ℕ)) (taken : List ℕ) (size : ℕ) → first ≡ Some taken → Grows first took → Grows took more
-    → IfSome took (λ now. size ≤ length now + block_size) → IfSome more (λ now. size ≤ length now + block_size)
-took_more_than first took more taken size e f g h = grind (arith, length-append)
+-- and has no less bytes
+pub grows_longer : (old new : List ℕ) (size : ℕ) → Grows old new → size ≤ length old → size ≤ length new
+grows_longer old new size g h = omega (arith, ap length g.1, length-append old g.0, h)
+
+pub took_more_than : (took more : List ℕ) (size : ℕ) → Grows took more → size ≤ length took + block_size → size ≤ length more + block_size
+took_more_than took more size g h = omega (arith, ap length g.1, length-append took g.0, h)
 
 -- an output later on: the sink took no less, and unless a write failed no less was put
 pub record GoesOn (old new : Output) : Type 0 where
@@ -63,25 +72,41 @@ goes_failed old new grows failed = record { took = grows; put = inl failed; stay
 pub goes_works : (old new : Output) → Grows old.took new.took → WorksAsBefore old new → GoesOn old new
 goes_works old new grows works = record { took = grows; put = inr works.put; stays_failed = λ was. works.served ∙ was }
 
+put_later : (Was Failed : Type 0) (put later : List ℕ) (size : ℕ) → (Was → Failed) → Failed ⊎ Grows put later → Was ⊎ (size ≤ length put) → Failed ⊎ (size ≤ length later)
+put_later Was Failed put later size stays goes (inl was) = inl (stays was)
+put_later Was Failed put later size stays (inl failed) (inr fits) = inl failed
+put_later Was Failed put later size stays (inr grows) (inr fits) = inr (grows_longer put later size grows fits)
+
 -- what the sink took stays taken, and what was put stays put
 pub took_later : (out grown later : Output) (bytes : List ℕ) → Grows out.took grown.took → GoesOn grown later → TookButBlock out bytes grown
     → TookButBlock out bytes later
 took_later out grown later bytes f goes h = record {
-  took = λ before taken e t. took_more_than out.took grown.took later.took taken (length (before ++ bytes)) t f goes.took (h.took before taken e t);
-  put = grind (arith, common_steps);
+  took = took_more_than grown.took later.took (length (out.put ++ bytes)) goes.took h.took;
+  put = put_later (grown.has_failed ≡ true) (later.has_failed ≡ true) grown.put later.put (length (out.put ++ bytes)) goes.stays_failed goes.put h.put;
 }
 
 -- of lines that were put, the sink took all but a block
 pub took_lines : (out grown : Output) (lines : List ℕ) → HasPut out lines grown → TookButBlock out lines grown
-took_lines out grown lines put = grind (arith, length-append)
+took_lines out grown lines put = record {
+  took = omega (arith, ap length put.puts, ap length put.block.1, length-append grown.took put.block.0, put.block.2);
+  put = inr (omega (arith, ap length put.puts));
+}
+
+works_same : (out : Output) → WorksAsBefore out out
+works_same out = record { served = refl; sink_served = refl; put = grows_nothing out.put; block = λ block. block }
 
 -- nothing was put yet
 pub put_none : (out : Output) → HoldsBlock out.took out.put → HasPut out [] out
-put_none out block = search rules
+put_none out block = record { puts = sym (append-nil out.put); works = works_same out; block = block; grows = grows_nothing out.took }
 
 -- the output grew by more bytes
 pub put_more : (out old new : Output) (bytes more : List ℕ) → HasPut out bytes old → Grown old more new → HasPut out (bytes ++ more) new
-put_more out old new bytes more put grown = grind (arith, text_grows, (works_both out old new put.works (grown_works old new more grown)), (grows_both out.took old.took new.took put.grows grown.grows))
+put_more out old new bytes more put grown = record {
+  puts = text_grows old.put new.put out.put bytes more (bytes ++ more) refl grown.appends put.puts;
+  works = works_both out old new put.works (grown_works old new more grown);
+  block = grown.block put.block;
+  grows = grows_both out.took old.took new.took put.grows grown.grows;
+}
 
 -- members of a reader were taken, and what they settle was written
 pub record Fed {S A State : Type 0} (settled : List A → List ℕ) (device : Source S) (old : MemberReader S A State) (out : Output) (past : List (Member A)) (now : MemberReader S A State) (grown : Output) : Type 0 where
@@ -161,7 +186,7 @@ module _ {S A State : Type 0} {settled : List A → List ℕ} {Kinds : Kind → 
     cause = inr (record {
       is = is;
       cuts = record {
-        front = λ bytes e. front_all later.took through.put bytes (settled (member_items before)) lines (settled (member_items given)) (ap settled items ∙ more) (put.puts bytes e) front;
+        front = front_all later.took through.put out.put (settled (member_items before)) lines (settled (member_items given)) (ap settled items ∙ more) put.puts front;
         failed = fails;
         sink_failed = sink;
       };
@@ -171,11 +196,11 @@ module _ {S A State : Type 0} {settled : List A → List ℕ} {Kinds : Kind → 
   }
 
   -- what is settled with it was put, but memory ran out with it
-  pub fails_growing : fault ≡ no_memory → Appends through.put later.put lines → WorksAsBefore through later → Grows through.took later.took → FeedsUpTo settled Kinds Sorted device old out fault new later
+  pub fails_growing : fault ≡ no_memory → later.put ≡ through.put ++ lines → WorksAsBefore through later → Grows through.took later.took → FeedsUpTo settled Kinds Sorted device old out fault new later
   fails_growing is appends works grows =
       let now : HasPut out (settled (member_items given)) later = record {
-        puts = λ bytes e. text_grows through.put later.put bytes (settled (member_items before)) lines (settled (member_items given)) (ap settled items ∙ more) appends (put.puts bytes e);
-        works = grind (arith, (grows_both out.put through.put later.put put.works.put works.put));
+        puts = text_grows through.put later.put out.put (settled (member_items before)) lines (settled (member_items given)) (ap settled items ∙ more) appends put.puts;
+        works = works_both out through later put.works works;
         block = works.block put.block;
         grows = grows_both out.took through.took later.took put.grows grows;
       } in
@@ -229,7 +254,7 @@ at_each {definition = definition} {first = first} {out = out} order takes past (
     (record {
       stands = fed_one.answers.stands first past at.stands may;
       put = record {
-        puts = λ before e. text_grows grown.put (t.1).put before (definition.settled first past) puts.bytes (definition.settled first (past ++ r ∷ [])) puts.goes_on puts.appends (at.put.puts before e);
+        puts = text_grows grown.put (t.1).put out.put (definition.settled first past) puts.bytes (definition.settled first (past ++ r ∷ [])) puts.goes_on puts.appends at.put.puts;
         works = works_both out grown t.1 at.put.works fed_one.answers.works;
         block = fed_one.answers.works.block at.put.block;
         grows = grows_both out.took grown.took (t.1).took at.put.grows fed_one.grows;

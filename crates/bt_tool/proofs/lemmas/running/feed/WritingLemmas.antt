@@ -11,7 +11,7 @@ use Rattle.bt_tool.specs.calls.Inputs.{CameOf, HandsUpTo, InputRead, MayHold, Of
 use Rattle.bt_lines.specs.calls.Device.{begun}
 use Rattle.bt_tool.proofs.lemmas.running.members.CursorLemmas.{IsWhole}
 use Rattle.bt_bed.specs.model.Meeting.{Report}
-use Rattle.bt_tool.specs.calls.Run.{NoneFailed, IsFaultButWrite, IsOfInput, IsPutTo, IsReported, IsWithin, ReadsNoFurther, TellsInput, TellsInputIf, RunsBy}
+use Rattle.bt_tool.specs.calls.Run.{NoneFailed, IsFaultButWrite, IsOfInput, IsReported, IsWithin, ReadsNoFurther, TellsInput, TellsInputIf, RunsBy}
 use Rattle.bt_lines.specs.declared.fault.Kind.{Kind}
 use Rattle.bt_lines.specs.calls.Reader.{CutsOff, Hands, bytes_taken, end_told}
 use Rattle.bt_lines.specs.declared.reader.line_reader.LineReader.{LineReader}
@@ -21,11 +21,11 @@ use Rattle.bt_bed.specs.calls.Reading.{IsBeyond, IsFaultBeyond, with_members}
 
 -- how far an input was read, by lines that settle the same, more that is said beside it, and what was taken and put later
 pub near_as : {n : ℕ} (Beside More : Type 0) → (Beside → More) → {faults others : List TextLine → Option FaultValue} → ((lines : List TextLine) → faults lines ≡ others lines) → {mine yours : List TextLine → List ℕ} → ((lines : List TextLine) → mine lines ≡ yours lines)
-    → {text handed before : List ℕ} {took more : Option (List ℕ)} (Cut Failed Stopped Stops : Type 0) {put later : Option (List ℕ)}
-    → ((size : ℕ) → IfSome took (λ taken. size ≤ length taken + block_size) → IfSome more (λ taken. size ≤ length taken + block_size))
-    → ((size : ℕ) → Cut ⊎ IsPutTo size put → Failed ⊎ IsPutTo size later) → ((bytes : List ℕ) → (Stopped → put ≡ Some bytes) → Stops → later ≡ Some bytes)
+    → {text handed before took more : List ℕ} (Cut Failed Stopped Stops : Type 0) {put later : List ℕ}
+    → ((size : ℕ) → size ≤ length took + block_size → size ≤ length more + block_size)
+    → ((size : ℕ) → Cut ⊎ (size ≤ length put) → Failed ⊎ (size ≤ length later)) → ((bytes : List ℕ) → (Stopped → put ≡ bytes) → Stops → later ≡ bytes)
     → ReadsNoFurther n Beside faults mine text handed before took Cut Stopped put → ReadsNoFurther n More others yours text handed before more Failed Stops later
-near_as {n} Beside More adds alike {mine} {yours} same {text} {handed} {before} {took} Cut Failed Stopped Stops {put} takes keeps stays near =
+near_as {n} Beside More adds alike {mine} {yours} same {text} {handed} {before} {took} {more} Cut Failed Stopped Stops {put} takes keeps stays near =
     let bytes : List ℕ = before ++ yours (take (n - 1) (text_lines text)) in
     let size : ℕ = length bytes in
     let equal : before ++ mine (take (n - 1) (text_lines text)) ≡ bytes = ap (λ l. before ++ l) (same (take (n - 1) (text_lines text))) in
@@ -34,9 +34,9 @@ near_as {n} Beside More adds alike {mine} {yours} same {text} {handed} {before} 
       some = near.some;
       faultless = sym (alike (take (n - 1) (text_lines text))) ∙ near.faultless;
       read = near.read;
-      settled = takes size (subst (λ n. IfSome took (λ taken. n ≤ length taken + block_size)) is near.settled);
-      kept = keeps size (subst (λ n. Cut ⊎ IsPutTo n put) is near.kept);
-      exact = stays bytes (λ stops. near.exact stops ∙ ap Some equal);
+      settled = takes size (subst (λ n. n ≤ length took + block_size) is near.settled);
+      kept = keeps size (subst (λ n. Cut ⊎ (n ≤ length put)) is near.kept);
+      exact = stays bytes (λ stops. near.exact stops ∙ equal);
       beside = adds near.beside;
     }
 
@@ -90,13 +90,13 @@ module _ {A B : Type 0} (source_a : Source A) (source_b : Source B) where
       one_reads = w.one_reads;
       two = None;
       two_reads = tt;
-      whole = λ one two before reads others put write memory. subst (λ r. IsReported r before fault grown) (same one two) (w.whole one None before reads (none_with (OfBoth CameOf) tt) put write memory);
-      told = λ one two before holds others put is. subst (λ r. IsReported r before fault grown) (same one two) (w.told one None before holds (none_with (OfBoth MayHold) tt) put is);
-      cut = λ is one two before holds others put.
-          let c = w.cut is one None before holds (none_with (OfBoth MayHold) tt) put in
+      whole = λ one two reads others write memory. subst (λ r. IsReported r out.put fault grown) (same one two) (w.whole one None reads (none_with (OfBoth CameOf) tt) write memory);
+      told = λ one two holds others is. subst (λ r. IsReported r out.put fault grown) (same one two) (w.told one None holds (none_with (OfBoth MayHold) tt) is);
+      cut = λ is one two holds others.
+          let c = w.cut is one None holds (none_with (OfBoth MayHold) tt) in
           (c.0, c.1, ap (λ (r : Report). r.output) (sym (same one two)) ∙ c.2, c.3);
-      kept = λ other one two before holds others put.
-          let k = w.kept other one None before holds (none_with (OfBoth MayHold) tt) put in
+      kept = λ other one two holds others.
+          let k = w.kept other one None holds (none_with (OfBoth MayHold) tt) in
           (k.0, k.1, ap (λ (r : Report). r.output) (sym (same one two)) ∙ k.2, k.3);
       grows = w.grows;
       ended = λ none. ((w.ended none).0, tt);
@@ -104,10 +104,10 @@ module _ {A B : Type 0} (source_a : Source A) (source_b : Source B) where
       no_failed_write = w.no_failed_write;
       near = (
         w.near.0,
-        λ one two before taken holds others put known.
+        λ one two holds others.
             near_as _ (IsWithin w.one.told one.text w.near.0 → HandsUpTo (yours.reaches two (take w.near.0 (text_lines one.text)) + block_size) None)
             (λ beside end. tt) same_faults (same_settle two) (grown.has_failed ≡ true) (grown.has_failed ≡ true) (IsFaultButWrite fault) (IsFaultButWrite fault)
-            (λ size took. took) (λ size kept. kept) (λ bytes is stops. is stops) (w.near.1 one None before taken holds (none_with (OfBoth MayHold) tt) put known),
+            (λ size took. took) (λ size kept. kept) (λ bytes is stops. is stops) (w.near.1 one None holds (none_with (OfBoth MayHold) tt)),
       );
       named = λ t e. elim (w.named t e) [
         | inl tells ↦ elim tells [ inl tells ↦ inl (inl (same_kinds t w.one tells)) | inr none ↦ absurd (subst (λ two. TellsInputIf source_a mine.SecondKinds Second two None t) alone none) ]

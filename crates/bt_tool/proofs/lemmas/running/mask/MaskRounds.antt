@@ -4,7 +4,7 @@ use Rattle.bt_lines.specs.declared.device.Source.{Ghosts as Source}
 use Rattle.bt_lines.specs.model.Fault.{FaultValue}
 use Rattle.bt_lines.specs.calls.Names.{fault_value}
 use Rattle.bt_lines.specs.calls.Output.{Output, HoldsBlock}
-use Rattle.bt_lines.specs.calls.Reader.{FillsLines, fault_kept as line_fault, GivesEnd, IsKept, MakesLine, input_of, lines_given}
+use Rattle.bt_lines.specs.calls.Reader.{FillsLines, fault_kept as line_fault, GivesEnd, IsKept, MakesLine, input_of, lines_given, room as room_of_lines}
 use Rattle.bt_lines.specs.declared.fault.Fault.{Fault}
 use Rattle.bt_lines.specs.declared.reader.line_reader.LineReader.{LineReader}
 use Rattle.bt_bed.specs.calls.Blocks.{FillsBlocks, below, fault_kept, view_of}
@@ -23,7 +23,7 @@ use Rattle.bt_tool.specs.calls.Run.{TellsNoRead}
 use Rattle.bt_tool.specs.inside.Feed.{IsKeptBelow, IsFresh}
 use Rattle.bt_tool.proofs.lemmas.running.members.MemberLemmas.{IsFilled, IsOver, passes_start}
 use Rattle.bt_tool.specs.inside.MaskLoop.{LoopGoesOn, MaskComes, MaskIsOver, mask_run, wanted_by, Masks, mask_rounds, line_members, mask_join, mask_pair, nothing_reached}
-use Rattle.bt_tool.proofs.lemmas.running.mask.MaskedLemmas.{AdvancesMask, MaskEnds, IsMaskReady, mask_left, finishes, stops_lines, stops_records, ends_alone, ends_lines, ends_waiting, fails_at_end, line_made, lines_done, record_made}
+use Rattle.bt_tool.proofs.lemmas.running.mask.MaskedLemmas.{AdvancesMask, MaskEnds, IsMaskReady, mask_left, finishes, stops_lines, stops_records, ends_alone, ends_lines, ends_waiting, fails_at_end, line_made, lines_done, no_line, record_made}
 use Rattle.bt_tool.specs.inside.Rounds.{IsLessOrReady, IsLessIfReady, LeadsTo}
 use Rattle.bt_tool.proofs.lemmas.running.members.BlockMembers.{block_filled, block_over, block_stopped}
 use Rattle.bt_tool.proofs.lemmas.running.whole.OwnFailureLemmas.{kept_there, line_none, none_below, none_tells, told_kept, told_none}
@@ -48,6 +48,12 @@ at_records waits want e w = ap (λ b. mask_rounds b want) e ∙ ap (mask_rounds 
 at_end : (waits : Bool) (want : MaskWant) → want ≡ Nothing → mask_rounds waits want ≡ 0
 at_end waits want e = ap (mask_rounds waits) e
 
+-- after the end of the lines, of which none waits
+rounds_at_end : (waiting : Option SequenceLine) (bed_ended waits : Bool) (want : MaskWant) → waiting ≡ None → waits ≡ is_some waiting → want ≡ mask_want_of (is_some waiting) true bed_ended → mask_rounds waits want ≤ 1
+rounds_at_end None false waits want none e w = omega (arith, at_records waits want e w)
+rounds_at_end None true waits want none e w = omega (arith, at_end waits want w)
+rounds_at_end (Some line) bed_ended waits want none e w = cc
+
 module _ {A B : Type 0} {source_a : Source A} {source_b : Source B} {start : MaskRun A B} {before : Output} {at : Reached} {lines : LineReader A} {second : MemberReader B Feature (Option Locus)}
     {mask : Masking} {out : Output} (s : Masks source_a source_b start before at lines second mask out) where
   -- what is wanted was made buffered, or the end of that input was given
@@ -62,7 +68,11 @@ module _ {A B : Type 0} {source_a : Source A} {source_b : Source B} {start : Mas
 
     pub lines_ended : GivesEnd source_a lines new → (masked : Masking) → MaskMovesTo mask.how mask.full (with_lines_ended s.stage) masked → Fills new second masked out
     lines_ended ends masked stands =
-        grind (arith, (ends_lines s wants new masked ends kept stands))
+        let counted = ends.bytes.1.counted in
+        let fewer : room_of_lines new ≤ room_of_lines lines = rw ends.nothing_held (omega arith) in
+        let rounds = rounds_at_end s.stage.inputs.waiting s.stage.inputs.second_ended (is_some masked.waiting) masked.want (no_line s wants).0 (waits_is stands.stands) stands.stands.want_is in
+        let were : mask_rounds (is_some mask.waiting) mask.want ≡ 2 = ap (mask_rounds (is_some mask.waiting)) wants in
+        ((at, ends_lines s wants new masked ends kept stands), inl (omega (arith, fewer, rounds, were)))
 
   module _ (wants : mask.want ≡ WantBed) (second_now : MemberReader B Feature (Option Locus)) where
     pub record_filled : IsFilled source_b second second_now → Fills lines second_now mask out

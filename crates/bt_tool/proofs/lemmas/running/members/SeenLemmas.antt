@@ -1,5 +1,5 @@
 -- Lemmas on the members that were seen and on the lines that were put, when a run stops.
-use Rattle.bt_lines.proofs.Std.{arith, ◌≡◌, ℕ, List, [], ◌++◌, sym, ap, ◌∙◌, append-nil, append_assoc, map-append}
+use Rattle.bt_lines.proofs.Std.{◌≡◌, refl, ℕ, List, [], ◌++◌, sym, ap, ◌∙◌, append-nil, append_assoc, map-append}
 use Rattle.bt_lines.specs.model.Fault.{FaultValue}
 use Rattle.bt_lines.specs.calls.Output.{Output, FailsToAdd}
 use Rattle.bt_bed.specs.model.Good.{Good, Member, items_in}
@@ -26,4 +26,5 @@ puts_front out lines grown puts = record { front = lines; rest = []; parts = sym
 
 -- the lines that couldn't be added were cut off
 pub cuts_more : (out old new : Output) (lines more : List ℕ) (fault : FaultValue) → PutsLines out lines old → FailsToAdd old more fault new → CutsLines out (lines ++ more) new
-cuts_more out old new lines more fault puts fails = grind (arith, front_all)
+cuts_more out old new lines more fault puts fails =
+    record { front = front_all new.took old.put out.put lines more (lines ++ more) refl puts fails.puts.front; failed = fails.puts.failed; sink_failed = fails.puts.sink_failed }

@@ -339,9 +339,9 @@ module _ {A B X Y U V : Type 0} {join : JoinDef X Y} {pair : Pair A B X Y U V} {
     meets (inr (inr (inl stops))) = meets_rest stops
     meets (inr (inr (inr stops))) = meets_limit stops.0 stops.1 stops.2
 
-    reported : (before : List ℕ) → out.put ≡ Some before → InputsEnd join pair out w.first_bytes.0 w.second_bytes.0 w.written w.wrote.given w.wrote.ended first second fault → PutsLines out w.bytes grown
-        → IsReported (met_by join (good_one one) (good_two two)) before fault grown
-    reported before put end puts = let met = meets end in (sym met.1, puts before put ∙ ap (λ l. Some (before ++ l)) (sym met.0))
+    reported : InputsEnd join pair out w.first_bytes.0 w.second_bytes.0 w.written w.wrote.given w.wrote.ended first second fault → PutsLines out w.bytes grown
+        → IsReported (met_by join (good_one one) (good_two two)) out.put fault grown
+    reported end puts = let met = meets end in (sym met.1, puts ∙ ap (λ l. out.put ++ l) (sym met.0))
 
   -- what was written begins the report on the whole texts
   front_of : (first second : Handed) → MayHold one_read first → MayHold two_read second
@@ -414,11 +414,11 @@ module _ {A B X Y U V : Type 0} {join : JoinDef X Y} {pair : Pair A B X Y U V} {
   no_failed_by other (inr (inl ran)) = (ran.2).sink_served
   no_failed_by other (inr (inr cut)) = absurd (other cut.0)
 
-  whole_by : (one two : Handed) (before : List ℕ) → CameOne fault one → CameTwo fault two → out.put ≡ Some before
-      → fault ≢ Some write_failed → fault ≢ Some no_memory → Because → IsReported (met_by join (good_one one) (good_two two)) before fault grown
-  whole_by one two before came came_second put write memory (inl (end, puts, works)) = reported one two came came_second before put end puts
-  whole_by one two before came came_second put write memory (inr (inl ran)) = absurd (memory ran.0)
-  whole_by one two before came came_second put write memory (inr (inr cut)) = absurd (write cut.0)
+  whole_by : (one two : Handed) → CameOne fault one → CameTwo fault two → fault ≢ Some write_failed → fault ≢ Some no_memory → Because
+      → IsReported (met_by join (good_one one) (good_two two)) out.put fault grown
+  whole_by one two came came_second write memory (inl (end, puts, works)) = reported one two came came_second end puts
+  whole_by one two came came_second write memory (inr (inl ran)) = absurd (memory ran.0)
+  whole_by one two came came_second write memory (inr (inr cut)) = absurd (write cut.0)
 
   kept_by : fault ≢ Some write_failed → Because → PutsFront out w.bytes grown
   kept_by other (inl (end, puts, works)) = puts_front out w.bytes grown puts
@@ -430,9 +430,9 @@ module _ {A B X Y U V : Type 0} {join : JoinDef X Y} {pair : Pair A B X Y U V} {
 
   module _ (settles : Handed → List TextLine → List ℕ) (reaches : Handed → List TextLine → ℕ) where
     abbrev pub NearBoth : Type 0
-    NearBoth = (n : ℕ) × ((one two : Handed) (before taken : List ℕ) → MayHold one_read one → MayHold two_read two → out.put ≡ Some before → out.took ≡ Some taken
+    NearBoth = (n : ℕ) × ((one two : Handed) → MayHold one_read one → MayHold two_read two
         → ReadsNoFurther n (IsWithin one_read.told one.text n → length two_read.bytes ≤ reaches two (take n (text_lines one.text)) + block_size)
-        (λ lines. (good first_format First lines).fault) (settles two) one.text one_read.bytes before grown.took (grown.has_failed ≡ true) (IsFaultButWrite fault) grown.put)
+        (λ lines. (good first_format First lines).fault) (settles two) one.text one_read.bytes out.put grown.took (grown.has_failed ≡ true) (IsFaultButWrite fault) grown.put)
 
     abbrev behaviour : Behaviour
     behaviour = record {
@@ -451,21 +451,21 @@ module _ {A B X Y U V : Type 0} {join : JoinDef X Y} {pair : Pair A B X Y U V} {
       one_reads = reads_so pair.source_a pair.first begins first ended w.first_bytes.1;
       two = Some two_read;
       two_reads = reads_so pair.source_b pair.second begins_second second ended_second w.second_bytes.1;
-      whole = λ one two before came others put write memory. whole_by one (or_empty two) before (inl came) (inl (both_if CameOf two_read two others)) put write memory w.why;
-      told = λ one two before holds others put is.
-          whole_by one (or_empty two) before (inr (is_whole holds is)) (inr (is_whole (both_if MayHold two_read two others) is)) put is.no_write is.no_growth w.why;
-      cut = λ is one two before holds others put.
+      whole = λ one two came others write memory. whole_by one (or_empty two) (inl came) (inl (both_if CameOf two_read two others)) write memory w.why;
+      told = λ one two holds others is.
+          whole_by one (or_empty two) (inr (is_whole holds is)) (inr (is_whole (both_if MayHold two_read two others) is)) is.no_write is.no_growth w.why;
+      cut = λ is one two holds others.
           let more = front_of one (or_empty two) holds (both_if MayHold two_read two others) in
-          (w.bytes, more.0, more.1, (cut_by is w.why).front before put);
-      kept = λ other one two before holds others put.
+          (w.bytes, more.0, more.1, (cut_by is w.why).front);
+      kept = λ other one two holds others.
           let more = front_of one (or_empty two) holds (both_if MayHold two_read two others) in
           let part = kept_by other w.why in
-          (part.front, part.rest ++ more.0, more.1 ∙ ap (λ l. l ++ more.0) part.parts ∙ append_assoc part.front part.rest more.0, part.puts before put);
+          (part.front, part.rest ++ more.0, more.1 ∙ ap (λ l. l ++ more.0) part.parts ∙ append_assoc part.front part.rest more.0, part.puts);
       grows = w.wrote.grows;
       ended = λ none. ended_by none w.why;
       served = λ e. grind arith;
       no_failed_write = λ other. no_failed_by other w.why;
-      near = (near.0, λ one two before taken holds others put took. near.1 one (or_empty two) before taken holds (both_if MayHold two_read two others) put took);
+      near = (near.0, λ one two holds others. near.1 one (or_empty two) holds (both_if MayHold two_read two others));
       named = λ told e. named_by told e w.why;
       no_failed = λ never. (
         not_failed pair.source_a pair.first begins first ended w.first_bytes.1 (none never).0,

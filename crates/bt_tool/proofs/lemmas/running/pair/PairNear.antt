@@ -183,12 +183,12 @@ module _ {A B X Y U V : Type 0} {join : JoinDef X Y} {pair : Pair A B X Y U V} {
         absurd (omega (arith, more, none.1, ap length same))
 
   -- how far both inputs were read
-  pub near_both : (n : ℕ) × ((one two : Handed) (before taken : List ℕ) → MayHold one_read one → MayHold two_read two → out.put ≡ Some before → out.took ≡ Some taken
+  pub near_both : (n : ℕ) × ((one two : Handed) → MayHold one_read one → MayHold two_read two
       → ReadsNoFurther n (IsWithin one_read.told one.text n → length two_read.bytes ≤ reaches two (take n (text_lines one.text)) + block_size)
-      (λ lines. (good first_format First lines).fault) (settles two) one.text one_read.bytes before grown.took (grown.has_failed ≡ true) (IsFaultButWrite fault) grown.put)
+      (λ lines. (good first_format First lines).fault) (settles two) one.text one_read.bytes out.put grown.took (grown.has_failed ≡ true) (IsFaultButWrite fault) grown.put)
   near_both = (
     suc count,
-    λ one two before taken holds others put took.
+    λ one two holds others.
         let less : suc count - 1 ≡ count = omega arith in
         let same : near.bytes ≡ settles two (take count (text_lines one.text)) = sym (settled one two holds others) in
         let lines : TookButBlock out (settles two (take count (text_lines one.text))) grown = subst (λ l. TookButBlock out l grown) same near.took in
@@ -197,9 +197,9 @@ module _ {A B X Y U V : Type 0} {join : JoinDef X Y} {pair : Pair A B X Y U V} {
           some = omega arith;
           faultless = rw less (ap (λ (g : Good X). g.fault) (on_first one two holds others));
           read = subst (λ (t : Handed). length w.first_bytes.0 ≤ bytes_in (take (suc count) (text_lines t.text)) + block_size) (sym holds.is) handed;
-          settled = rw less (lines.took before taken put took);
-          kept = rw less (elim lines.put [ inl failed ↦ inl failed | inr kept ↦ inr (kept before put) ]);
-          exact = rw less (λ stops. w.exact stops before put ∙ ap (λ l. Some (before ++ l)) same);
+          settled = rw less lines.took;
+          kept = rw less lines.put;
+          exact = rw less (λ stops. w.exact stops ∙ ap (λ l. out.put ++ l) same);
           beside = beside one two holds others near.beside;
         },
   )

@@ -11,7 +11,7 @@ use Rattle.bt_lines.specs.model.Fault.{FaultValue}
 use Rattle.bt_lines.specs.model.Lines.{bytes_in, TextLine}
 use Rattle.bt_lines.specs.calls.Output.{Output, HoldsBlock, block_size, Grown}
 use Rattle.bt_tool.proofs.lemmas.running.members.MemberLemmas.{later_both, later_same, later_then, IsFilled, IsOver, ended_after_all, items_from, passes_all, passes_end, passes_fill, passes_take, read_before, read_here, IsStopped, fails_before_end, passes_stop}
-use Rattle.bt_tool.proofs.lemmas.running.feed.FeedLemmas.{put_more}
+use Rattle.bt_tool.proofs.lemmas.running.feed.FeedLemmas.{put_more, put_none}
 use Rattle.bt_lines.specs.declared.fault.Kind.{Kind}
 use Rattle.bt_lines.proofs.lemmas.reader.block.ReadsLemmas.{hands_none, hands_both}
 use Rattle.bt_tool.specs.inside.SweepLoop.{ChecksUpTo}
@@ -205,7 +205,7 @@ module _ {A B X Y U V : Type 0} (join : JoinDef X Y) (pair : Pair A B X Y U V) (
     settles = settles_nothing join ([] ++ option_to_list (item_ahead pair.second)) false;
     first_all = λ e. absurd (false≢true e);
     second_all = λ e. absurd (false≢true e);
-    put = search rules;
+    put = put_none out block;
     near_first = ([], refl, read_here pair.source_a pair.first [] pair.first passes, λ e. absurd (false≢true e));
   }
 

@@ -1,10 +1,10 @@
 -- Lemmas on a run, from its devices to the report on what its inputs hand over.
-use Rattle.bt_lines.proofs.Std.{common_steps, ◌≡◌, ℕ, Bool, true, false, List, [], ◌++◌, length, Option, None, Some, Ok, Err, refl, sym, ap, ◌∙◌, subst, append-nil, append_assoc, arith, inl, inr, ◌⊎◌, ◌≢◌, Result, is_some, option_map, append_cancel_left, Appends-nil}
+use Rattle.bt_lines.proofs.Std.{common_steps, ◌≡◌, ℕ, Bool, true, false, List, [], ◌++◌, length, Option, None, Some, Ok, Err, refl, sym, ap, ◌∙◌, subst, append-nil, append_assoc, arith, inl, inr, ◌⊎◌, ◌≢◌, Result, is_some, option_map, append_cancel_left, ◌≤◌, ◌+◌}
 use Rattle.bt_lines.specs.declared.device.Sink.{Ghosts as Sink}
 use Rattle.bt_lines.specs.declared.device.Source.{Ghosts as Source}
 use Rattle.bt_lines.proofs.lemmas.reader.block.ReadsLemmas.{some_is}
 use Rattle.bt_tool.proofs.lemmas.running.feed.FeedLemmas.{took_more_than}
-use Rattle.bt_lines.proofs.lemmas.Writer.{grows_both}
+use Rattle.bt_lines.proofs.lemmas.Writer.{grows_both, grows_nothing}
 use Rattle.bt_lines.specs.model.Fault.{FaultValue}
 use Rattle.bt_lines.specs.calls.Faults.{write_failed, no_memory}
 use Rattle.bt_lines.specs.model.Lines.{Handed}
@@ -22,7 +22,7 @@ use Rattle.bt_runs.specs.model.Depth.{settled_depths}
 use Rattle.bt_runs.specs.model.Gaps.{settled_gaps}
 use Rattle.bt_bed.specs.model.Meeting.{Report}
 use Rattle.bt_tool.specs.model.Written.{IsOneOf}
-use Rattle.bt_tool.specs.calls.Run.{InputsRead, KnowsChromosomes, LacksChromosomes, ReadsChromosomes, IsFaultButWrite, IsOfInput, IsPutTo, ReadsNoFurther, TellsDevice, TellsInput, TellsInputIf, TellsNoRead, RunsBy, Runs, TellsOther, ShowsReport}
+use Rattle.bt_tool.specs.calls.Run.{InputsRead, KnowsChromosomes, LacksChromosomes, ReadsChromosomes, IsFaultButWrite, IsOfInput, ReadsNoFurther, TellsDevice, TellsInput, TellsInputIf, TellsNoRead, RunsBy, Runs, TellsOther, ShowsReport}
 use Rattle.bt_tool.specs.inside.Feed.{Flushes, FlushesAll, FlushFails, StaysFailed}
 use Rattle.bt_tool.specs.model.Report.{Inputs, behaviour_on, chromosomes_of, report_of, report_on, answer_of, report, texts_of}
 use Rattle.bt_tool.specs.model.Behaviour.{behaviour_of}
@@ -50,42 +50,50 @@ lies : (o : Option Place) (place : Place) → o ≡ Some place → place.input �
 lies o place e is = ap lies_in_genome e ∙ ap is_of_genome is
 
 -- what a sink took is a prefix of the output, if it's a prefix of what was put
-cut_front : (a took : Option (List ℕ)) (before front rest output : List ℕ) → a ≡ Some before → Grows a took → output ≡ front ++ rest → IsPrefixOf took (Some (before ++ front)) []
-    → (front : List ℕ) × (rest : List ℕ) × (took ≡ Some (before ++ front)) × (output ≡ front ++ rest)
-cut_front a took before front rest output e g o f = grind (arith, append_assoc, append-nil, append_cancel_left)
+cut_front : (before took front rest output : List ℕ) → Grows before took → output ≡ front ++ rest → IsPrefixOf took before front
+    → (front : List ℕ) × (rest : List ℕ) × (took ≡ before ++ front) × (output ≡ front ++ rest)
+unfolding IsPrefixOf
+cut_front before took front rest output g o f =
+    let same : front ≡ g.0 ++ f.0 = append_cancel_left before front (g.0 ++ f.0) (sym f.1 ∙ ap (λ l. l ++ f.0) g.1 ∙ append_assoc before g.0 f.0) in
+    (g.0, f.0 ++ rest, g.1, o ∙ ap (λ l. l ++ rest) same ∙ append_assoc g.0 f.0 rest)
 
 -- a fault from before a flush
 module _ (out mid new : Output) (fault answer : Option FaultValue) where
-  front_by : {before output : List ℕ} → out.took ≡ Some before → Grows out.took mid.took → Grows mid.took new.took
-      → (fault ≢ Some write_failed → (front : List ℕ) × (rest : List ℕ) × (output ≡ front ++ rest) × (mid.put ≡ Some (before ++ front)))
-      → (fault ≡ Some write_failed → (front : List ℕ) × (rest : List ℕ) × (output ≡ front ++ rest) × IsPrefixOf mid.took (Some (before ++ front)) [])
+  front_by : {output : List ℕ} → out.put ≡ out.took → Grows out.took mid.took → Grows mid.took new.took
+      → (fault ≢ Some write_failed → (front : List ℕ) × (rest : List ℕ) × (output ≡ front ++ rest) × (mid.put ≡ out.put ++ front))
+      → (fault ≡ Some write_failed → (front : List ℕ) × (rest : List ℕ) × (output ≡ front ++ rest) × IsPrefixOf mid.took out.put front)
       → (FlushesAll mid fault answer new ⊎ FlushFails mid fault answer new) ⊎ StaysFailed mid fault answer new
-      → (front : List ℕ) × (rest : List ℕ) × (new.took ≡ Some (before ++ front)) × (output ≡ front ++ rest)
-  front_by took grows more kept cut (inl (inl all)) = grind arith
-  front_by {before} {output} took grows more kept cut (inl (inr fails)) =
+      → (front : List ℕ) × (rest : List ℕ) × (new.took ≡ out.took ++ front) × (output ≡ front ++ rest)
+  unfolding IsPrefixOf
+  front_by same grows more kept cut (inl (inl all)) =
+      let k = kept all.was in
+      (k.0, k.1, all.taken ∙ k.3 ∙ ap (λ l. l ++ k.0) same, k.2)
+  front_by {output} same grows more kept cut (inl (inr fails)) =
       let k = kept fails.was in
-      cut_front out.took new.took before k.0 k.1 output took (grows_both out.took mid.took new.took grows more) k.2 (subst (λ put. IsPrefixOf new.took put []) k.3 fails.front)
-  front_by {before} {output} took grows more kept cut (inr stays) =
+      cut_front out.took new.took k.0 k.1 output (grows_both out.took mid.took new.took grows more) k.2
+      (fails.front.0, fails.front.1 ∙ append-nil mid.put ∙ k.3 ∙ ap (λ l. l ++ k.0) same)
+  front_by {output} same grows more kept cut (inr stays) =
       let c = cut stays.was in
-      cut_front out.took new.took before c.0 c.1 output took (grows_both out.took mid.took new.took grows more) c.2 (subst (λ (o : Output). IsPrefixOf o.took (Some (before ++ c.0)) []) (sym stays.unchanged) c.3)
+      cut_front out.took new.took c.0 c.1 output (grows_both out.took mid.took new.took grows more) c.2
+      (c.3.0, ap (λ (o : Output). o.took ++ c.3.0) stays.unchanged ∙ c.3.1 ∙ ap (λ l. l ++ c.0) same)
 
-  whole_by : (told : Option FaultValue) (whole : List ℕ) → (fault ≢ Some write_failed → fault ≢ Some no_memory → (fault ≡ told) × (mid.put ≡ Some whole)) → (fault ≡ Some write_failed → mid.sink_has_failed ≡ true)
+  whole_by : (told : Option FaultValue) (whole : List ℕ) → (fault ≢ Some write_failed → fault ≢ Some no_memory → (fault ≡ told) × (mid.put ≡ whole)) → (fault ≡ Some write_failed → mid.sink_has_failed ≡ true)
       → new.sink_has_failed ≡ false → answer ≢ Some no_memory → (FlushesAll mid fault answer new ⊎ FlushFails mid fault answer new) ⊎ StaysFailed mid fault answer new
-      → (answer ≡ told) × (new.took ≡ Some whole)
+      → (answer ≡ told) × (new.took ≡ whole)
   whole_by told whole gives writing served memory p1 = grind arith
 
-  told_by : (told : Option FaultValue) (whole : List ℕ) → (IsOfInput fault → (fault ≡ told) × (mid.put ≡ Some whole)) → IsOfInput answer → (FlushesAll mid fault answer new ⊎ FlushFails mid fault answer new) ⊎ StaysFailed mid fault answer new
-      → (answer ≡ told) × (new.took ≡ Some whole)
+  told_by : (told : Option FaultValue) (whole : List ℕ) → (IsOfInput fault → (fault ≡ told) × (mid.put ≡ whole)) → IsOfInput answer → (FlushesAll mid fault answer new ⊎ FlushFails mid fault answer new) ⊎ StaysFailed mid fault answer new
+      → (answer ≡ told) × (new.took ≡ whole)
   told_by told whole gives is p1 = grind arith
 
   -- what was put before the flush was taken with it, unless a write failed
-  pub kept_by : (size : ℕ) → (mid.has_failed ≡ true) ⊎ IsPutTo size mid.put → (FlushesAll mid fault answer new ⊎ FlushFails mid fault answer new) ⊎ StaysFailed mid fault answer new
-      → (answer ≡ Some write_failed) ⊎ IsPutTo size new.took
+  pub kept_by : (size : ℕ) → (mid.has_failed ≡ true) ⊎ (size ≤ length mid.put) → (FlushesAll mid fault answer new ⊎ FlushFails mid fault answer new) ⊎ StaysFailed mid fault answer new
+      → (answer ≡ Some write_failed) ⊎ (size ≤ length new.took)
   kept_by size kept p1 = grind arith
 
   -- and at a fault nothing else
-  pub exact_by : (bytes : List ℕ) → (IsFaultButWrite fault → mid.put ≡ Some bytes) → IsFaultButWrite answer → (FlushesAll mid fault answer new ⊎ FlushFails mid fault answer new) ⊎ StaysFailed mid fault answer new
-      → new.took ≡ Some bytes
+  pub exact_by : (bytes : List ℕ) → (IsFaultButWrite fault → mid.put ≡ bytes) → IsFaultButWrite answer → (FlushesAll mid fault answer new ⊎ FlushFails mid fault answer new) ⊎ StaysFailed mid fault answer new
+      → new.took ≡ bytes
   exact_by bytes is stops p1 = grind arith
 
   -- unless a failed write is reported, the fault is the one from before, and the sink has served in the flush too
@@ -133,10 +141,10 @@ write_by : {P : Type 0} (b last : Bool) → (P → ⊥) → P ⊎ TellsDevice b 
 write_by b last other p1 = grind arith
 
 -- an input that wasn't touched was read at most up to its first line
-near_untouched : (Beside : Type 0) → Beside → (command : Command) (chromosomes : Result (Option (List Entry)) FaultValue) (second : Option Handed) {text before : List ℕ} {took more : Option (List ℕ)} → took ≡ Some before → Grows took more
-    → (Failed Stops : Type 0) {later : Option (List ℕ)} → Failed ⊎ IsPutTo (length (before ++ [])) later → (Stops → later ≡ Some (before ++ []))
+near_untouched : (Beside : Type 0) → Beside → (command : Command) (chromosomes : Result (Option (List Entry)) FaultValue) (second : Option Handed) {text before more : List ℕ} → Grows before more
+    → (Failed Stops : Type 0) {later : List ℕ} → Failed ⊎ (length (before ++ []) ≤ length later) → (Stops → later ≡ before ++ [])
     → ReadsNoFurther 1 Beside (behaviour_on command chromosomes).faults ((behaviour_on command chromosomes).settles second) text [] before more Failed Stops later
-near_untouched Beside has command chromosomes second t g Failed Stops kept exact = grind (arith, common_steps, none_settle, none_at_fault)
+near_untouched Beside has command chromosomes second g Failed Stops kept exact = grind (arith, common_steps, none_settle, none_at_fault, (ap length g.1))
 
 -- a run writes to an output over a sink, which it gives back
 pub record WritesOver {K : Type 0} (sink : Sink K) (out out_after : K) (begun new : Output) : Type 0 where
@@ -149,6 +157,9 @@ pub record WritesOver {K : Type 0} (sink : Sink K) (out out_after : K) (begun ne
 
 module _ {G A B K : Type 0} (source_g : Source G) (source_a : Source A) (source_b : Source B) {sink : Sink K} (command : Command) (genome genome_after : Option G) (first first_after : A) (second second_after : Option B)
     {out out_after : K} {begun mid new : Output} (writes_over : WritesOver sink out out_after begun new) {fault answer : Option FaultValue} (flushes : Flushes mid fault answer new) where
+  begun_same : begun.put ≡ begun.took
+  begun_same = writes_over.put ∙ sym writes_over.took
+
   abbrev RunsSo : Type 0
   RunsSo = Runs source_g source_a source_b sink command genome first second out answer genome_after first_after second_after out_after
 
@@ -194,27 +205,27 @@ module _ {G A B K : Type 0} (source_g : Source G) (source_a : Source A) (source_
     runs_written = record {
       read = read;
       reads = record { genome_file = knows.reads; first_input = writes.one_reads; second_input = writes.two_reads };
-      whole = λ inputs before reads known served memory.
+      whole = λ inputs reads served memory.
           let same = report_is inputs (knows.whole inputs.genome reads.genome_file) in
-          let w = whole_by begun mid new fault answer (reported inputs).fault (before ++ (reported inputs).output)
-          (λ write growth. writes.whole inputs.first inputs.second before reads.first_input reads.second_input (writes_over.put ∙ known) write growth)
+          let w = whole_by begun mid new fault answer (reported inputs).fault (begun.put ++ (reported inputs).output)
+          (λ write growth. writes.whole inputs.first inputs.second reads.first_input reads.second_input write growth)
           sink_failed (sym writes_over.failed_after ∙ served) memory flushes.ends in
-          subst (λ (r : Report). (answer ≡ r.fault) × (sink.took out_after ≡ Some (before ++ r.output))) (sym same) (w.0, writes_over.took_after ∙ w.1);
-      told = λ inputs before holds known is.
+          subst (λ (r : Report). (answer ≡ r.fault) × (sink.took out_after ≡ sink.took out ++ r.output)) (sym same) (w.0, writes_over.took_after ∙ w.1 ∙ ap (λ l. l ++ (reported inputs).output) writes_over.put);
+      told = λ inputs holds is.
           let same = report_is inputs (knows.told inputs.genome holds.genome_file) in
-          let w = told_by begun mid new fault answer (reported inputs).fault (before ++ (reported inputs).output)
-          (λ of_input. writes.told inputs.first inputs.second before holds.first_input holds.second_input (writes_over.put ∙ known) of_input) is flushes.ends in
-          subst (λ (r : Report). (answer ≡ r.fault) × (sink.took out_after ≡ Some (before ++ r.output))) (sym same) (w.0, writes_over.took_after ∙ w.1);
-      prefix = λ inputs before holds known.
-          let f = front_by begun mid new fault answer (writes_over.took ∙ known) writes.grows flushes.grows
-          (λ other. writes.kept other inputs.first inputs.second before holds.first_input holds.second_input (writes_over.put ∙ known)) (λ is. writes.cut is inputs.first inputs.second before holds.first_input holds.second_input (writes_over.put ∙ known)) flushes.ends in
-          (f.0, f.1, writes_over.took_after ∙ f.2, ap (λ (r : Report). r.output) (report_is inputs (knows.told inputs.genome holds.genome_file)) ∙ f.3);
+          let w = told_by begun mid new fault answer (reported inputs).fault (begun.put ++ (reported inputs).output)
+          (λ of_input. writes.told inputs.first inputs.second holds.first_input holds.second_input of_input) is flushes.ends in
+          subst (λ (r : Report). (answer ≡ r.fault) × (sink.took out_after ≡ sink.took out ++ r.output)) (sym same) (w.0, writes_over.took_after ∙ w.1 ∙ ap (λ l. l ++ (reported inputs).output) writes_over.put);
+      prefix = λ inputs holds.
+          let f = front_by begun mid new fault answer begun_same writes.grows flushes.grows
+          (λ other. writes.kept other inputs.first inputs.second holds.first_input holds.second_input) (λ is. writes.cut is inputs.first inputs.second holds.first_input holds.second_input) flushes.ends in
+          (f.0, f.1, writes_over.took_after ∙ f.2 ∙ ap (λ l. l ++ f.0) writes_over.took, ap (λ (r : Report). r.output) (report_is inputs (knows.told inputs.genome holds.genome_file)) ∙ f.3);
       near = (
         writes.near.0,
-        λ inputs before holds known.
-            let near = writes.near.1 inputs.first inputs.second before before holds.first_input holds.second_input (writes_over.put ∙ known) (writes_over.took ∙ known) in
-            rw (knows.told inputs.genome holds.genome_file, writes_over.took_after) (near_as _ _ (λ beside. beside) (λ lines. refl) (λ lines. refl) (mid.has_failed ≡ true)
-            (answer ≡ Some write_failed) (IsFaultButWrite fault) (IsFaultButWrite answer) (λ size. took_more_than begun.took mid.took new.took before size (writes_over.took ∙ known) writes.grows flushes.grows) (λ size kept. kept_by begun mid new fault answer size kept flushes.ends)
+        λ inputs holds.
+            let near = writes.near.1 inputs.first inputs.second holds.first_input holds.second_input in
+            rw (knows.told inputs.genome holds.genome_file, writes_over.took_after, ← writes_over.put) (near_as _ _ (λ beside. beside) (λ lines. refl) (λ lines. refl) (mid.has_failed ≡ true)
+            (answer ≡ Some write_failed) (IsFaultButWrite fault) (IsFaultButWrite answer) (λ size. took_more_than mid.took new.took size flushes.grows) (λ size kept. kept_by begun mid new fault answer size kept flushes.ends)
             (λ bytes is stops. exact_by begun mid new fault answer bytes is stops flushes.ends) near),
       );
       ended = λ none. (let ends = writes.ended (none_before begun mid new fault answer flushes.ends none) in (knows.ended, ends.0, ends.1));
@@ -242,11 +253,11 @@ module _ {G A B K : Type 0} (source_g : Source G) (source_a : Source A) (source_
     unfolding report_of
     report_wrong inputs e = ap (λ c. report_on command c inputs.first inputs.second) e
 
-    begun_put : (before : List ℕ) → sink.took out ≡ Some before → mid.put ≡ Some (before ++ [])
-    begun_put before known = ap (λ (o : Output). o.put) stops.3 ∙ writes_over.put ∙ known ∙ ap Some (sym (append-nil before))
+    begun_put : mid.put ≡ sink.took out ++ []
+    begun_put = ap (λ (o : Output). o.put) stops.3 ∙ writes_over.put ∙ sym (append-nil (sink.took out))
 
     mid_grows : Grows begun.took mid.took
-    mid_grows = subst (λ (o : Output). Grows begun.took o.took) (sym stops.3) ([], Appends-nil begun.took)
+    mid_grows = subst (λ (o : Output). Grows begun.took o.took) (sym stops.3) (grows_nothing begun.took)
 
     no_write : fault ≡ Some write_failed → ⊥
     no_write e = lacks.no_write (some_is wrong write_failed (sym stops.0 ∙ e))
@@ -263,26 +274,26 @@ module _ {G A B K : Type 0} (source_g : Source G) (source_a : Source A) (source_
     runs_wrong = record {
       read = read_wrong;
       reads = record { genome_file = lacks.reads; first_input = rw stops.1 (reads_nothing source_a first); second_input = rw stops.2 (reads_none source_b second) };
-      whole = λ inputs before reads known served memory.
-          let w = whole_by begun mid new fault answer (Some wrong) (before ++ [])
-          (λ write growth. (stops.0, begun_put before known)) (λ e. absurd (no_write e)) (sym writes_over.failed_after ∙ served) memory flushes.ends in
+      whole = λ inputs reads served memory.
+          let w = whole_by begun mid new fault answer (Some wrong) (sink.took out ++ [])
+          (λ write growth. (stops.0, begun_put)) (λ e. absurd (no_write e)) (sym writes_over.failed_after ∙ served) memory flushes.ends in
           let same = report_wrong inputs (lacks.whole inputs.genome reads.genome_file (λ e. memory (w.0 ∙ ap Some e))) in
-          subst (λ (r : Report). (answer ≡ r.fault) × (sink.took out_after ≡ Some (before ++ r.output))) (sym same) (w.0, writes_over.took_after ∙ w.1);
-      told = λ inputs before holds known is.
-          let w = told_by begun mid new fault answer (Some wrong) (before ++ []) (λ of_input. (stops.0, begun_put before known)) is flushes.ends in
+          subst (λ (r : Report). (answer ≡ r.fault) × (sink.took out_after ≡ sink.took out ++ r.output)) (sym same) (w.0, writes_over.took_after ∙ w.1);
+      told = λ inputs holds is.
+          let w = told_by begun mid new fault answer (Some wrong) (sink.took out ++ []) (λ of_input. (stops.0, begun_put)) is flushes.ends in
           let same = report_wrong inputs (lacks.told inputs.genome holds.genome_file (subst IsOfInput w.0 is)) in
-          subst (λ (r : Report). (answer ≡ r.fault) × (sink.took out_after ≡ Some (before ++ r.output))) (sym same) (w.0, writes_over.took_after ∙ w.1);
-      prefix = λ inputs before holds known.
-          let f = front_by begun mid new fault answer (writes_over.took ∙ known) mid_grows flushes.grows
-          (λ other. ([], (report_of command inputs).output, refl, begun_put before known)) (λ is. absurd (no_write is)) flushes.ends in
-          (f.0, f.1, writes_over.took_after ∙ f.2, f.3);
+          subst (λ (r : Report). (answer ≡ r.fault) × (sink.took out_after ≡ sink.took out ++ r.output)) (sym same) (w.0, writes_over.took_after ∙ w.1);
+      prefix = λ inputs holds.
+          let f = front_by begun mid new fault answer begun_same mid_grows flushes.grows
+          (λ other. ([], (report_of command inputs).output, refl, ap (λ (o : Output). o.put) stops.3 ∙ sym (append-nil begun.put))) (λ is. absurd (no_write is)) flushes.ends in
+          (f.0, f.1, writes_over.took_after ∙ f.2 ∙ ap (λ l. l ++ f.0) writes_over.took, f.3);
       near = (
         1,
-        λ inputs before holds known.
+        λ inputs holds.
             rw writes_over.took_after (near_untouched _ (λ within. none_up_to _ second)
-            command (chromosomes_of inputs.genome) inputs.second (writes_over.took ∙ known) (grows_both begun.took mid.took new.took mid_grows flushes.grows)
-            (answer ≡ Some write_failed) (IsFaultButWrite answer) (kept_by begun mid new fault answer (length (before ++ [])) (inr (before ++ [], begun_put before known, omega arith)) flushes.ends)
-            (λ other. exact_by begun mid new fault answer (before ++ []) (λ was. begun_put before known) other flushes.ends)),
+            command (chromosomes_of inputs.genome) inputs.second (subst (λ l. Grows l new.took) writes_over.took (grows_both begun.took mid.took new.took mid_grows flushes.grows))
+            (answer ≡ Some write_failed) (IsFaultButWrite answer) (kept_by begun mid new fault answer (length (sink.took out ++ [])) (inr (omega (arith, ap length begun_put))) flushes.ends)
+            (λ other. exact_by begun mid new fault answer (sink.took out ++ []) (λ was. begun_put) other flushes.ends)),
       );
       ended = λ none. absurd (no_end none);
       served = λ none. absurd (no_end none);
@@ -308,6 +319,6 @@ usage_reported words usage e = λ genome first second. ap (λ answer. answer_of 
 module _ {G A B K : Type 0} (source_g : Source G) (source_a : Source A) (source_b : Source B) (sink : Sink K) where
   pub shows_report : ShowsReport source_g source_a source_b sink
   unfolding report
-  shows_report words plan genome first second out fault genome_after first_after second_after out_after genome_text first_text second_text bytes asked runs read empty served memory took =
-      let gives = runs.whole (texts_of plan genome_text first_text second_text) [] read empty served memory in
+  shows_report words plan genome first second out fault genome_after first_after second_after out_after genome_text first_text second_text asked runs read empty served memory =
+      let gives = runs.whole (texts_of plan genome_text first_text second_text) read served memory in
       grind arith

@@ -23,12 +23,12 @@ use denote.Triple.Entry.{alive}
 use denote.Triple.Spec.{Meets, triple_of}
 use denote.Triple.Table.{entered}
 use denote.Triple.Walked.{says, Stays, walk_of, ends_at, walk_Meets}
-use Rattle.bt_files.proofs.Walks.{none, none_made}
-use Rattle.bt_files.specs.contracts.moved_bytes.MovedBytes as Log
-use Rattle.bt_files.specs.contracts.moved_bytes.MovedBytes.new as F
-use Rattle.bt_files.specs.contracts.moved_bytes.MovedBytes.new.Key.{name as #self}
-use Rattle.bt_files.proofs.moved_bytes.MovedBytes.new.Statement as stated
-use Rattle.bt_files.proofs.moved_bytes.MovedBytes.new.Code as code
+use Rattle.bt_lines.proofs.Walks.{none, none_made}
+use Rattle.bt_lines.specs.contracts.device.moved_bytes.MovedBytes as Log
+use Rattle.bt_lines.specs.contracts.device.moved_bytes.MovedBytes.new as F
+use Rattle.bt_lines.specs.contracts.device.moved_bytes.MovedBytes.new.Key.{name as #self}
+use Rattle.bt_lines.proofs.device.moved_bytes.MovedBytes.new.Statement as stated
+use Rattle.bt_lines.proofs.device.moved_bytes.MovedBytes.new.Code as code
 
 abbrev function : Fn
 function = code.function

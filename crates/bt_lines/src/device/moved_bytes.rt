@@ -5,8 +5,9 @@ ghost use Rattle.std.specs.Borrow.{ftrue};
 
 use std::marker::Model;
 
+/// The bytes that the calls of a device moved, in order.
 #[derive(Drop, Debug)]
-pub(crate) struct MovedBytes {
+pub struct MovedBytes {
     ghost bytes: { List ℕ },
 }
 
@@ -16,21 +17,21 @@ impl Model for MovedBytes {
 
 /// What one call moved.
 #[derive(Clone, Copy, Drop)]
-pub(crate) struct Piece<'a> {
-    pub(crate) bytes: &'a [u8],
+pub struct Piece<'a> {
+    pub bytes: &'a [u8],
 }
 
 impl MovedBytes {
-    /// None.
-    pub(crate) fn new() -> MovedBytes
+    /// No bytes.
+    pub fn new() -> MovedBytes
         ensures { result.bytes ≡ [] }
     {
         MovedBytes {}
     }
 
-    /// Those before, and a piece more.
+    /// Those before, and a piece after them.
     #[inline(always)]
-    pub(crate) fn with(&self, piece: &Piece<'_>) -> MovedBytes
+    pub fn with(&self, piece: &Piece<'_>) -> MovedBytes
         ensures { result.bytes ≡ self.now.bytes ++ piece.now.bytes.now }
     {
         MovedBytes {}

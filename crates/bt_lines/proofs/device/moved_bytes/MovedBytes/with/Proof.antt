@@ -25,13 +25,13 @@ use denote.Triple.Entry.{alive}
 use denote.Triple.Spec.{Meets, triple_of}
 use denote.Triple.Table.{entered}
 use denote.Triple.Walked.{says, Stays, stay_dropped, walk_of, ends_at, walk_Meets, Goes-dropped}
-use Rattle.bt_files.proofs.Walks.{none, none_made}
-use Rattle.bt_files.specs.contracts.moved_bytes.MovedBytes as Log
-use Rattle.bt_files.specs.contracts.moved_bytes.Piece as Piece
-use Rattle.bt_files.specs.contracts.moved_bytes.MovedBytes.with as F
-use Rattle.bt_files.specs.contracts.moved_bytes.MovedBytes.with.Key.{name as #self}
-use Rattle.bt_files.proofs.moved_bytes.MovedBytes.with.Statement as stated
-use Rattle.bt_files.proofs.moved_bytes.MovedBytes.with.Code as code
+use Rattle.bt_lines.proofs.Walks.{none, none_made}
+use Rattle.bt_lines.specs.contracts.device.moved_bytes.MovedBytes as Log
+use Rattle.bt_lines.specs.contracts.device.moved_bytes.Piece as Piece
+use Rattle.bt_lines.specs.contracts.device.moved_bytes.MovedBytes.with as F
+use Rattle.bt_lines.specs.contracts.device.moved_bytes.MovedBytes.with.Key.{name as #self}
+use Rattle.bt_lines.proofs.device.moved_bytes.MovedBytes.with.Statement as stated
+use Rattle.bt_lines.proofs.device.moved_bytes.MovedBytes.with.Code as code
 
 abbrev function : Fn
 function = code.function
