@@ -1,7 +1,8 @@
-use Rattle.bt_lines.proofs.Std.{refl, subst, List, ℕ}
+use Rattle.bt_lines.proofs.Std.{List, ap, refl, subst, ℕ, ◌∙◌}
 use Rattle.bt_front.specs.calls.Survey.{IsTroubleOf}
 use Rattle.bt_front.specs.model.Survey.{IsSurveyOf}
 use Rattle.drop_in.specs.calls.Looks.LeavesGzip.{by_text, not_unzipped}
+use Rattle.drop_in.specs.calls.Whys.{unzipped_why}
 use Rattle.drop_in.proofs.gzip.look_at_gzip.Goals as goal
 
 pub returns-in-Err-clause-leaves : goal.returns-in-Err-clause-leaves
@@ -19,4 +20,5 @@ pub returns-in-Err-survey_text-clause-leaves : goal.returns-in-Err-survey_text-c
 returns-in-Err-survey_text-clause-leaves g c =
     by_text c.in-Ok.text.items c.in-Err-survey_text.trouble c.in-Ok.ensures.gives
     (subst (λ (bytes : List ℕ). IsTroubleOf bytes c.in-Err-survey_text.trouble) c.as_slice.ensures.value c.in-Err-survey_text.ensures.leaves)
-    c.text_why.ensures
+    (c.unzipped_why.ensures
+    ∙ ap (λ (bytes : List ℕ). unzipped_why c.args.input c.in-Err-survey_text.trouble bytes) c.as_slice-in-Err-survey_text.ensures.value)
