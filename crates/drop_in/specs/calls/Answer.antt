@@ -95,7 +95,7 @@ module _ {F I O : Type 0} (files : Files F I O) (source : Source I) where
         → LeavesCall before request ways room left after
     unopened : left.stream ≡ None → CannotOpen files before (plan_seen request.plan).names ways left.why after
         → LeavesCall before request ways room left after
-    once_opened : (opened : OpenedFiles I) (between : F) → AreRunnable streams
+    once_opened : (opened : OpenedFiles I) (between : F) → AreRunnable ways
         → OpensAll files before (plan_seen request.plan).names ways opened between
         → LeavesOpened between request opened room left after → LeavesCall before request ways room left after
     once_taken : (inputs : Inputs I) → orders_hits request ≡ true → Looks before request ways inputs after
