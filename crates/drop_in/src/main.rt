@@ -57,7 +57,9 @@ use std::env::Env;
 use std::fs::File;
 use std::process::ExitCode;
 use std::{env, io};
-use system::{DropInFiles, begins_as_gzip, find_original, fit_room, open_pipe, room, ways_of, writes_to_pipe};
+use system::{
+    DropInFiles, begins_as_gzip, find_original, fit_room, open_pipe, room, ways_of, writes_to_pipe,
+};
 use system_programs::SystemPrograms;
 use versions::{is_for_any_version, is_known_version};
 use warning::Case;
