@@ -3,7 +3,7 @@
 
     tests/drop_in/front_costs.py [--write] [WORD..]
 
-The files are made here: 800,000 reads as BED, SAM and BAM on a genome of 360,000,000 bases, exons, transcripts and
+The files are made here: 800,000 reads as BED, gzip and BAM on a genome of 360,000,000 bases, exons, transcripts and
 sequences, and small ones. For each call it shows who took it and the seconds of both, of the processor and by the
 clock, the less of two runs, and compares the bytes. With words it tries the calls that have one of them. Without
 words --write puts all rows into front_costs.tsv and some into bench/DROP_IN.md. Ends with 1 if bytes differ, or if a
@@ -30,6 +30,7 @@ COLUMNS = ("call", "run by", "bedtools, CPU s", "drop-in, CPU s", "bedtools, wal
 ROWS = Path(__file__).resolve().parent / "front_costs.tsv"
 SHOWN = """
 merge -i reads.bed
+merge -i reads.bed.gz
 cat reads.bed | merge
 complement -i reads.bed -g sorted.sizes
 intersect -u -a reads.bed -b exons.bed
@@ -39,7 +40,6 @@ subtract -a reads.bed -b exons.bed
 genomecov -bg -i reads.bed -g sorted.sizes
 genomecov -i reads.bed -g sorted.sizes
 genomecov -bg -ibam reads.bam
-bamtobed -i reads.sam
 bamtobed -i reads.bam
 maskfasta -fi long.fa -bed repeats.bed -fo masked.fa
 merge -i few.bed
@@ -63,6 +63,8 @@ intersect -sorted -wa -wb -a reads.bed -b exons.bed
 intersect -wa -wb -a reads.bed -b exons.bed
 intersect -c -a exons.bed -b reads.bed
 intersect -u -a reads.bed -b <(cat exons.bed)
+intersect -u -a reads.bed.gz -b exons.bed.gz
+intersect -wa -wb -a covered.bed -b covered.bed
 subtract -a reads.bed -b exons.bed
 genomecov -bg -i reads.bed -g sorted.sizes
 genomecov -bg -i natural.bed -g sorted.sizes
@@ -72,6 +74,7 @@ genomecov -bga -strand + -i reads.bed -g sorted.sizes
 genomecov -bg -scale 0.37 -i reads.bed -g sorted.sizes
 genomecov -i reads.bed -g sorted.sizes
 genomecov -max 3 -i reads.bed -g sorted.sizes
+genomecov -i reads.bed.gz -g sorted.sizes
 genomecov -d -i few.bed -g small.sizes
 genomecov -dz -i few.bed -g small.sizes
 genomecov -bg -i few.bed -g sorted.sizes
@@ -79,9 +82,6 @@ genomecov -bg -split -i transcripts.bed -g sorted.sizes
 genomecov -bg -ibam reads.bam
 genomecov -bg -split -ibam reads.bam
 genomecov -ibam reads.bam
-bamtobed -i reads.sam
-bamtobed -split -i reads.sam
-bamtobed -split -i reads.bam
 bamtobed -i reads.bam
 maskfasta -fi long.fa -bed repeats.bed -fo masked.fa
 merge -i few.bed
@@ -127,8 +127,12 @@ def make_files(folder, draw):
             transcripts.append((name, start, end, "tx", 0, draw.choice("+-"), start, end, 0, len(lengths),
                                 "".join(f"{length}," for length in lengths), "".join(f"{at}," for at in starts)))
     write(folder, "exons.bed", exons)
+    subprocess.run(["gzip", "-k", "exons.bed"], cwd=folder, check=True)
     write(folder, "transcripts.bed", transcripts)
     write(folder, "few.bed", exons[:1000])
+    # A long record before many that it covers
+    short = (("chr1", start, start + 20) for start in range(0, 3_000_000, 100))
+    write(folder, "covered.bed", [("chr1", 0, SIZES["chr1"]), *short])
     write(folder, "whole.bed", ((name, 0, size) for name, size in sorted(SIZES.items())))
     write(folder, "sorted.sizes", sorted(SIZES.items()))
     write(folder, "small.sizes", [("chr1", 4_000_000)])
