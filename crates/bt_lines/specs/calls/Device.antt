@@ -1,8 +1,7 @@
 -- What calls of devices do: any, those of std, and those that play a script.
-use Rattle.std.specs.Prelude.{◌≡◌, ℕ, ◌+◌, Bool, true, false, ◌||◌, ◌&&◌, List, [], ◌++◌, length, take, drop, ◌==◌, nat_lt, Option, Some, None, Result, Ok, Err, MatchResult, ◌-◌, min, nat_le}
+use Rattle.std.specs.Prelude.{◌≡◌, ℕ, ◌+◌, Bool, true, false, ◌||◌, ◌&&◌, List, [], ◌++◌, length, take, drop, ◌==◌, nat_lt, Option, Some, None, is_some, Result, Ok, Err, MatchResult, ◌-◌, min, nat_le}
 use Rattle.std.specs.Io.KnownBytes.{Consumes, IsAtEnd, Keeps}
 use Rattle.bt_lines.specs.declared.device.from_read.FromRead.{FromRead}
-use Rattle.bt_lines.specs.declared.device.to_write.ToWrite.{ToWrite}
 
 -- What calls of a device do.
 
@@ -81,20 +80,36 @@ readers_tell_their_text {R} remaining = (source : FromRead R) (text : List ℕ)
 abbrev pub read_end_told : {R : Type 0} → FromRead R → Bool
 read_end_told s = s.end_told
 
+-- a sink over a writer, and the bytes that the writer took
+pub record WritesTo (W : Type 0) : Type 0 where
+  pub writer : W
+  pub has_failed : Bool
+  pub is_flushed : Bool
+  pub taken : List ℕ
+
+-- a writer of a kind that always knows its contents holds these bytes
+abbrev pub HoldsKnown : {W : Type 0} → (W → Option (List ℕ)) → W → List ℕ → Type 0
+HoldsKnown {W} contents writer bytes = ((any : W) → is_some (contents any) ≡ true) → contents writer ≡ Some bytes
+
+-- the contents, or none if they aren't known
+abbrev pub known_or_none : Option (List ℕ) → List ℕ
+known_or_none None = []
+known_or_none (Some bytes) = bytes
+
 -- the writer below the sink
-abbrev pub writer_of : {W : Type 0} → ToWrite W → W
+abbrev pub writer_of : {W : Type 0} → WritesTo W → W
 writer_of s = s.writer
 
--- the bytes that the writer took since the sink was made
-abbrev pub writer_took : {W : Type 0} → ToWrite W → List ℕ
-writer_took s = s.taken.bytes
+-- the bytes that the writer took, after those that it held when the sink was made, if it knew them
+abbrev pub writer_took : {W : Type 0} → WritesTo W → List ℕ
+writer_took s = s.taken
 
 -- whether the writer has failed
-abbrev pub write_has_failed : {W : Type 0} → ToWrite W → Bool
+abbrev pub write_has_failed : {W : Type 0} → WritesTo W → Bool
 write_has_failed s = s.has_failed
 
 -- whether the writer was flushed since the last write
-abbrev pub write_is_flushed : {W : Type 0} → ToWrite W → Bool
+abbrev pub write_is_flushed : {W : Type 0} → WritesTo W → Bool
 write_is_flushed s = s.is_flushed
 
 -- What scripted devices hold: they stand for a file or a terminal in tests.

@@ -29,6 +29,14 @@ impl MovedBytes {
         MovedBytes {}
     }
 
+    /// Bytes that were moved before, which a proof names.
+    pub fn after() -> MovedBytes
+        ghost before: { List ℕ }
+        ensures { result.bytes ≡ before }
+    {
+        MovedBytes {}
+    }
+
     /// Those before, and a piece after them.
     #[inline(always)]
     pub fn with(&self, piece: &Piece<'_>) -> MovedBytes

@@ -1,17 +1,18 @@
 //! A writer of std as a sink.
 
-ghost use Rattle.std.specs.Prelude.{◌≡◌, ℕ, ◌<◌, ◌≤◌, ◌++◌, [], false, true, IsTrue, IsErr, is_err, length, take, IfOk, OnOk, OnErr};
+ghost use Rattle.std.specs.Prelude.{◌≡◌, List, ℕ, ◌<◌, ◌≤◌, ◌++◌, [], false, true, IsTrue, IsErr, is_err, length, take, IfOk, OnOk, OnErr};
 ghost use Rattle.std.specs.Io.KnownBytes.{Keeps, WriteAppends};
-ghost use Rattle.bt_lines.specs.calls.Device.{writer_of, writer_took, write_has_failed, write_is_flushed};
+ghost use Rattle.bt_lines.specs.calls.Device.{HoldsKnown, known_or_none, writer_of, writer_took, write_has_failed, write_is_flushed};
 
 use crate::device::moved_bytes::{MovedBytes, Piece};
 use crate::device::{DeviceFailed, Sink};
 use std::io::Write;
+use std::marker::Model;
 
 /// A sink over a writer. An error, an interrupted call among them, isn't tried again, and a write
 /// that takes none of a piece with bytes is a failure. Once failed, the writer isn't written to again.
 #[derive(Drop, Debug)]
-pub struct ToWrite<W> {
+pub struct ToWrite<W: Write> {
     // Not written to again once it has failed.
     writer: W,
     // Whether a call has failed; it stays so.
@@ -22,11 +23,39 @@ pub struct ToWrite<W> {
     taken: MovedBytes,
 }
 
-impl<W> ToWrite<W> {
+impl<W: Write> Model for ToWrite<W> {
+    ghost use Rattle.bt_lines.specs.calls.Device.{WritesTo, HoldsKnown};
+
+    ghost Value = { WritesTo W };
+
+    ghost view = { λ s. record {
+      writer = s.writer;
+      has_failed = s.has_failed;
+      is_flushed = s.is_flushed;
+      taken = s.taken.bytes;
+    } };
+
+    ghost invariant = { λ s. HoldsKnown W.contents s.writer s.taken.bytes };
+}
+
+impl<W: Write> ToWrite<W> {
     /// A sink that hands bytes to the writer.
+    #[tactic(auto, using(crate::proofs::lemmas::Passing::holds_none))]
     pub fn new(writer: W) -> ToWrite<W>
         ensures writer { writer_of result ≡ writer }
-        ensures none { writer_took result ≡ [] }
+        ensures took { writer_took result ≡ known_or_none (W.contents writer) }
+        ensures served { write_has_failed result ≡ false }
+        ensures unflushed { write_is_flushed result ≡ false }
+    {
+        ToWrite::start(writer)
+    }
+
+    // A sink over a writer that holds these bytes, if it always knows its contents.
+    fn start(writer: W) -> ToWrite<W>
+        ghost before: { List ℕ }
+        requires { HoldsKnown W.contents writer before }
+        ensures writer { writer_of result ≡ writer }
+        ensures took { writer_took result ≡ before }
         ensures served { write_has_failed result ≡ false }
         ensures unflushed { write_is_flushed result ≡ false }
     {
@@ -34,13 +63,14 @@ impl<W> ToWrite<W> {
             writer,
             has_failed: false,
             is_flushed: false,
-            taken: MovedBytes::new(),
+            taken: MovedBytes::after(),
         }
     }
 
     /// The writer.
     pub fn into_inner(self) -> W
-        ensures { result ≡ writer_of self }
+        ensures writer { result ≡ writer_of self }
+        ensures holds { HoldsKnown W.contents result (writer_took self) }
     {
         let ToWrite { writer, .. } = self;
         writer
@@ -58,6 +88,7 @@ impl<W: Write> Sink for ToWrite<W> {
     ghost is_flushed = { write_is_flushed };
 
     // `below` says that the writer takes the same bytes, if it knows its contents.
+    #[tactic(auto, using(crate::proofs::lemmas::Passing::holds_more))]
     fn write(&mut self, bytes: &[u8]) -> Result<usize, DeviceFailed>
         ensures within { IfOk result (λ n. n ≤ length bytes.now) }
         ensures progress { IfOk result (λ n. 0 < length bytes.now → 0 < n) }
@@ -91,6 +122,7 @@ impl<W: Write> Sink for ToWrite<W> {
         }
     }
 
+    #[tactic(auto, using(crate::proofs::lemmas::Passing::holds_same))]
     fn flush(&mut self) -> Result<(), DeviceFailed>
         ensures takes_none { writer_took self.new ≡ writer_took self.old }
         ensures below { Keeps (W.contents (writer_of self.old)) (W.contents (writer_of self.new)) }
