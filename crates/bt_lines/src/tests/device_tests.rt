@@ -1,4 +1,4 @@
-ghost use Rattle.std.specs.Prelude.{true, ⊤};
+ghost use Rattle.std.specs.Prelude.{◌≡◌, ◌++◌, IfSome, true, ⊤};
 
 use crate::tests::output_tests::fails_again;
 use crate::tests::{Want, gives_all, gives_some, has_ended, holds};
@@ -322,6 +322,28 @@ fn a_writer_of_std(rt: HostRuntime) -> Result<(), Fail> {
         is_put && writer.get_ref().as_slice() == b"abc".as_slice(),
         "abc",
     );
+    Ok(())
+}
+
+// Puts a piece after what is in memory, and gives all of it.
+fn put_in_memory(memory: Vec<u8>, piece: &[u8]) -> Option<Vec<u8>>
+    ensures { IfSome result (λ now. now.items ≡ memory.items ++ piece.now) }
+{
+    let mut output = Out::new(ToWrite::new(memory));
+    if output.put(piece).is_err() {
+        return None;
+    }
+    if output.flush().is_err() {
+        return None;
+    }
+    Some(output.into_sink().into_inner())
+}
+
+#[test]
+fn memory_has_what_was_put_after_what_it_had(rt: HostRuntime) -> Result<(), Fail> {
+    let memory = Vec::from_slice(rt.alloc(), b"ab")?;
+    let now = put_in_memory(memory, b"c").ok_or("all was put")?;
+    assert_eq!(rt; now.as_slice(), b"abc".as_slice());
     Ok(())
 }
 
